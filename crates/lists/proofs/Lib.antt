@@ -4,3 +4,4 @@ pub mod Fill
 pub mod Rows
 pub mod Parts
 pub mod Regions
+pub mod Every
