@@ -1,0 +1,51 @@
+use mathlib.Core.Path.{_≡_, refl, sym, _∙_, ap}
+use Prim.Native.Nat.{ℕ, _+_, _*_, _-_, _/_, _%_, _≤_, _<_}
+use native.Mathlib.Omega.{arith}
+use lib.ListN.{length, set, take, drop, length-set}
+use lib.Ieee.{Float, nan, binary32, add, mul}
+use borrow.Author.Needs.{needs}
+use Rattle.exponent.proofs.scaled_of.Statement.{statement}
+use Rattle.exponent.proofs.scaled_of.Tie as tie
+use Rattle.exponent.proofs.scaled_of.Reads as reads
+use Rattle.exponent.proofs.scaled_of.Lts as lts
+use Rattle.exponent.proofs.size_of.Reads as size-of-reads
+
+-- src/lib.rt:337:20
+cast-negative : tie.Need-cast-negative
+cast-negative c = search needs
+
+-- src/lib.rt:338:10
+mul-result : tie.Need-mul-result
+mul-result c = ?
+
+-- src/lib.rt:338:6
+sub-result : tie.Need-sub-result
+sub-result c = ?
+
+-- src/lib.rt:338:27
+size-of-requires : tie.Need-size-of-requires
+size-of-requires c κs = search needs
+
+-- src/lib.rt:338:27
+cast-result : tie.Need-cast-result
+cast-result c = ?
+
+-- src/lib.rt:338:5
+mul-result-2 : tie.Need-mul-result-2
+mul-result-2 c = ?
+
+-- src/lib.rt:333:1
+returns : tie.Need-returns
+returns c = ?
+
+pub scaled-of-spec : {M : Type 1} → statement M
+scaled-of-spec =
+    tie.close
+    (tie.spec
+    cast-negative
+    mul-result
+    sub-result
+    size-of-requires
+    cast-result
+    mul-result-2
+    returns)
