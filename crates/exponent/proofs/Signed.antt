@@ -1,18 +1,21 @@
 -- Signed whole numbers as the machine has them: small ones come back from their bits, sums and products of small ones are small, and the two parts
 -- of one are a shift and a difference. Assumes nothing.
+use mathlib.Core.Logic.{⊎-elim}
 use mathlib.Core.Path.{_≡_, refl, sym, _∙_, ap}
 use mathlib.Core.Bool.{Bool, true, false, cond}
 use Prim.Native.Nat.{ℕ, zero, suc, _+_, _-_, _*_, _/_, _%_, _^_, _≤_, _<_}
 use native.Mathlib.Nat.{div-add-mod', mod-lt, mod-eq-of-lt, suc-mul, one-mul}
 use native.Mathlib.Omega.{arith}
-use borrow.Author.Tests.{le-ltb}
-use lib.Dec.{ltb}
+use borrow.Author.Tests.{le-ltb, lt-ltb, ltb-true}
+use lib.Dec.{T, ltb}
 use lib.Pow.{pow-pos, pow-mono}
-use lib.IntN.{ℤ, pos, negsuc, negℤ, subℕ, _+ℤ_, _-ℤ_, _*ℤ_, +ℤ-comm, -ℤ-+ℤ-cancel}
-use lib.Signed.{mag, shrZ, mag-shr}
+use lib.IntN.{ℤ, pos, negsuc, negℤ, natAbs, subℕ, _+ℤ_, _-ℤ_, _*ℤ_, +ℤ-comm, -ℤ-+ℤ-cancel}
+use lib.Signed.{mag, ltZ, nonNeg, shrZ, mag-shr}
 use mir.Syntax.{w64}
 use mir.Val.{SFits, toZ, ofZ}
-use mir.Facts.{toZ-ofZ}
+use mir.Facts.{toZ-ofZ, sfits-lit}
+use Rattle.single.proofs.Order.{le-or-lt}
+use Rattle.exponent.specs.Exp.{positive}
 use Rattle.exponent.specs.Split.{parts, Splits}
 
 pub back : (z : ℤ) → mag z < 2 ^ 63 → toZ w64 (ofZ w64 z) ≡ z
@@ -86,6 +89,9 @@ whole-is z n h =
     ∙ +ℤ-comm q (z -ℤ q)
     ∙ -ℤ-+ℤ-cancel z q
 
+pub mag-quotient : (z : ℤ) (n : ℕ) → mag (parts z n .quotient) ≤ mag z
+mag-quotient z n = rw (← shifted z n) (mag-shr z n)
+
 -- ---- the code of `split`, by 2 ^ k
 module _ (z : ℤ) (k : ℕ) (small : mag z < 2 ^ 40) (short : k < 32) where
   pub power-small : 2 ^ k ≤ 2 ^ 31
@@ -120,3 +126,50 @@ module _ (z : ℤ) (k : ℕ) (small : mag z < 2 ^ 40) (short : k < 32) where
 
 pub parts-split : (z : ℤ) (n : ℕ) → 0 < n → Splits z n (parts z n)
 parts-split z n h = record { whole = whole-is z n h; below = remainder-lt z n h; is = refl }
+
+-- ---- the code of `positive_of`
+pub negative-none : (z : ℤ) → ltZ z (pos 0) ≡ true → 0 ≡ positive z
+unfolding positive
+negative-none (pos n) h = absurd (let l = ltb-true n 0 h in omega arith)
+negative-none (negsuc n) h = refl
+
+pub not-negative : (z : ℤ) → ltZ z (pos 0) ≡ false → T (nonNeg z)
+not-negative (pos n) h = tt
+not-negative (negsuc n) h = absurd (let e : 0 ≡ 1 = ap number (sym h) in omega arith)
+  where
+    number : Bool → ℕ
+    number true = 1
+    number false = 0
+
+pub positive-is : (z : ℤ) → T (nonNeg z) → natAbs z ≡ positive z
+unfolding positive
+positive-is (pos n) h = refl
+positive-is (negsuc n) h = absurd h
+
+-- ---- the code of `scaled_of`: the factor 1 - 2 s is 1 or -1
+abbrev pub factor : ℕ → ℤ
+factor s = toZ w64 (ofZ w64 (pos 1 -ℤ toZ w64 (ofZ w64 (pos 2 *ℤ toZ w64 s))))
+
+unfoldable pub signed : Bool → ℕ → ℤ
+signed t u = cond t (pos u) (negℤ (pos u))
+
+pub mag-signed : (t : Bool) (u : ℕ) → mag (signed t u) ≤ u
+unfolding signed
+mag-signed true u = omega arith
+mag-signed false u = mag-neg u
+
+plus : (s u : ℕ) → s ≡ 0 → u < 2 ^ 63 → factor s *ℤ toZ w64 u ≡ pos u
+plus s u e h = rw (e, back (pos u) h) (ap pos (one-mul u))
+
+less : (s u : ℕ) → s ≡ 1 → u < 2 ^ 63 → factor s *ℤ toZ w64 u ≡ negℤ (pos u)
+less s u e h = rw (e, back (pos u) h) (ap (λ (n : ℕ). negℤ (pos n)) (one-mul u))
+
+pub signed-is : (b u : ℕ) → b < 2 ^ 32 → u < 2 ^ 63 → factor (b / 2 ^ 31) *ℤ toZ w64 u ≡ signed (ltb b (2 ^ 31)) u
+unfolding signed
+signed-is b u word h =
+    ⊎-elim (λ l. rw (le-ltb b (2 ^ 31) l) (less (b / 2 ^ 31) u (omega arith) h)) (λ l. rw (lt-ltb b (2 ^ 31) l) (plus (b / 2 ^ 31) u (omega arith) h)) (le-or-lt (2 ^ 31) b)
+
+pub factor-fits : (s : ℕ) → s < 2 → SFits w64 (pos 1 -ℤ toZ w64 (ofZ w64 (pos 2 *ℤ toZ w64 s)))
+factor-fits zero h = sfits-lit tt
+factor-fits (suc zero) h = sfits-lit tt
+factor-fits (suc (suc s)) h = absurd (omega arith)

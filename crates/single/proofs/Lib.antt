@@ -1,2 +1,3 @@
 pub mod Nan
+pub mod Order
 pub mod Table

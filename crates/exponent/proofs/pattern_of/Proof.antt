@@ -1,3 +1,5 @@
+use Rattle.exponent.proofs.Ranges.{shift-le}
+use Rattle.exponent.specs.Exp.{nearest}
 use mathlib.Core.Path.{_≡_, refl, sym, _∙_, ap}
 use Prim.Native.Nat.{ℕ, _+_, _*_, _-_, _/_, _%_, _≤_, _<_}
 use native.Mathlib.Omega.{arith}
@@ -23,15 +25,16 @@ shr-result c = search needs
 
 -- src/lib.rt:359:21
 add-result-2 : tie.Need-add-result-2
-add-result-2 c = search needs
+add-result-2 c = omega (arith, shift-le (c .args .size) 38 (38 + c .args .down) (omega arith))
 
 -- src/lib.rt:359:5
 add-result-3 : tie.Need-add-result-3
-add-result-3 c = search needs
+add-result-3 c = omega (arith, shift-le (c .args .size) 38 (38 + c .args .down) (omega arith))
 
 -- src/lib.rt:355:1
 returns : tie.Need-returns
-returns c = search needs
+unfolding nearest
+returns c = let e : 39 + c .args .down - 1 ≡ 38 + c .args .down = omega arith in rw e
 
 pub pattern-of-spec : {M : Type 1} → statement M
 pattern-of-spec =

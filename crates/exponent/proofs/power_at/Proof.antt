@@ -1,3 +1,5 @@
+use Rattle.exponent.specs.Exp.{power}
+use Rattle.exponent.proofs.Ranges.{product-lt, power-lt}
 use mathlib.Core.Path.{_≡_, refl, sym, _∙_, ap}
 use Prim.Native.Nat.{ℕ, _+_, _*_, _-_, _/_, _%_, _≤_, _<_}
 use native.Mathlib.Omega.{arith}
@@ -20,7 +22,7 @@ add-c c = search needs
 
 -- src/lib.rt:315:13
 mul-w : tie.Need-mul-w
-mul-w c = ?
+mul-w c = record { fits = omega (arith, product-lt (c .args .f) (c .pre .1)) }
 
 -- src/lib.rt:316:5
 table-at-requires : tie.Need-table-at-requires
@@ -28,15 +30,17 @@ table-at-requires c κs = search needs
 
 -- src/lib.rt:316:20
 add-result : tie.Need-add-result
-add-result c = ?
+add-result c = record { fits = omega (arith, product-lt (c .before .args .f) (c .before .pre .1)) }
 
 -- src/lib.rt:316:5
 mul-result : tie.Need-mul-result
-mul-result c = ?
+unfolding power
+mul-result c = rw (c .table-at .ensures) (record { fits = omega (arith, power-lt (c .before .args .j) (c .before .args .f) (c .before .pre .0) (c .before .pre .1)) })
 
 -- src/lib.rt:310:1
 returns : tie.Need-returns
-returns c = ?
+unfolding power
+returns c = rw (c .table-at .ensures)
 
 pub power-at-spec : {M : Type 1} → statement M
 power-at-spec =

@@ -1,3 +1,8 @@
+use Rattle.exponent.specs.Split.{parts}
+use Rattle.exponent.proofs.Ranges.{scaled-small, scaled-back, whole-small, exponent-small, raised-is}
+use Rattle.exponent.specs.Exp.{scaled, raised}
+use Rattle.exponent.proofs.Ranges.{size-between, mag-scaled, raised-is}
+use Rattle.exponent.proofs.Signed.{back, mag-quotient}
 use mathlib.Core.Path.{_≡_, refl, sym, _∙_, ap}
 use Prim.Native.Nat.{ℕ, _+_, _*_, _-_, _/_, _%_, _≤_, _<_}
 use native.Mathlib.Omega.{arith}
@@ -18,11 +23,14 @@ scaled-of-requires c κs = search needs
 
 -- src/lib.rt:346:9
 split-requires : tie.Need-split-requires
-split-requires c κs = ?
+split-requires c κs = rw (scaled-back (c .before .args .bits) (c .before .pre) (c .scaled-of .result) (c .scaled-of .ensures)) (scaled-small (c .before .args .bits) (c .before .pre), search needs)
 
 -- src/lib.rt:347:9
 split-requires-2 : tie.Need-split-requires-2
-split-requires-2 c κs = ?
+split-requires-2 c κs = 
+    let e1 : c .before .split .result ≡ parts (scaled (c .before .before .before .args .bits)) 16777216 = c .before .split .ensures .is ∙ ap (λ z. parts z 16777216) (scaled-back (c .before .before .before .args .bits) (c .before .before .before .pre) (c .before .before .scaled-of .result) (c .before .before .scaled-of .ensures)) in
+    let s1 = whole-small (c .before .before .before .args .bits) (c .before .before .before .pre) (c .before .split .result) e1 in
+    rw (back (c .before .split .result .quotient) (omega arith)) (s1, search needs)
 
 -- src/lib.rt:350:15
 power-at-requires : tie.Need-power-at-requires
@@ -30,7 +38,12 @@ power-at-requires c κs = search needs
 
 -- src/lib.rt:342:1
 returns : tie.Need-returns
-returns c = ?
+returns c = 
+    let e1 : c .before .before .before .before .split .result ≡ parts (scaled (c .before .before .before .before .before .before .args .bits)) 16777216 = c .before .before .before .before .split .ensures .is ∙ ap (λ z. parts z 16777216) (scaled-back (c .before .before .before .before .before .before .args .bits) (c .before .before .before .before .before .before .pre) (c .before .before .before .before .before .scaled-of .result) (c .before .before .before .before .before .scaled-of .ensures)) in
+    let s1 = whole-small (c .before .before .before .before .before .before .args .bits) (c .before .before .before .before .before .before .pre) (c .before .before .before .before .split .result) e1 in
+    let e2 : c .before .before .split2 .result ≡ parts (c .before .before .before .before .split .result .quotient) 256 = c .before .before .split2 .ensures .is ∙ ap (λ z. parts z 256) (back (c .before .before .before .before .split .result .quotient) (omega arith)) in
+    let s2 = exponent-small (c .before .before .before .before .before .before .args .bits) (c .before .before .before .before .before .before .pre) (c .before .before .before .before .split .result) (c .before .before .split2 .result) e1 e2 in
+    rw (back (c .before .before .split2 .result .quotient) (omega arith)) (raised-is (c .before .before .before .before .before .before .args .bits) (c .before .before .before .before .split .result) (c .before .before .split2 .result) (c .before .power-at .result) e1 e2 (c .before .power-at .ensures))
 
 pub raised-of-spec : {M : Type 1} → statement M
 raised-of-spec =

@@ -1,3 +1,6 @@
+use mathlib.Core.Logic.{⊎-elim}
+use Rattle.exponent.specs.Exp.{size}
+use Rattle.exponent.proofs.Ranges.{shift-far}
 use mathlib.Core.Path.{_≡_, refl, sym, _∙_, ap}
 use Prim.Native.Nat.{ℕ, _+_, _*_, _-_, _/_, _%_, _≤_, _<_}
 use native.Mathlib.Omega.{arith}
@@ -27,11 +30,12 @@ mul-result c = search needs
 
 -- src/lib.rt:329:5
 shr-result : tie.Need-shr-result
-shr-result c = ?
+shr-result c = ⊎-elim (λ w. omega arith) (λ w. omega arith) (c .before .if1 .came)
 
 -- src/lib.rt:320:1
 returns : tie.Need-returns
-returns c = ?
+unfolding size
+returns c = ⊎-elim (λ w. rw (w .1)) (λ w. rw (w .1) (shift-far _ _ (omega arith) (w .0 .left))) (c .before .if1 .came)
 
 pub size-of-spec : {M : Type 1} → statement M
 size-of-spec = tie.close (tie.spec cast-a add-m sub-long mul-result shr-result returns)

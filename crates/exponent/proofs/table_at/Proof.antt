@@ -1,3 +1,7 @@
+use lib.Dec.{lit<}
+use native.Mathlib.Nat.{lt-trans}
+use Rattle.exponent.specs.Table.{entry}
+use Rattle.exponent.proofs.Entries.{digits-at}
 use mathlib.Core.Path.{_≡_, refl, sym, _∙_, ap}
 use Prim.Native.Nat.{ℕ, _+_, _*_, _-_, _/_, _%_, _≤_, _<_}
 use native.Mathlib.Omega.{arith}
@@ -19,11 +23,13 @@ array-read-result c = search needs
 
 -- src/lib.rt:306:5
 cast-result : tie.Need-cast-result
-cast-result c = ?
+unfolding entry
+cast-result c = record { fits = lt-trans (digits-at (c .args .j) (c .pre) .1) (lit< tt) }
 
 -- src/lib.rt:302:1
 returns : tie.Need-returns
-returns c = ?
+unfolding entry
+returns c = refl
 
 pub table-at-spec : {M : Type 1} → statement M
 table-at-spec = tie.close (tie.spec mul-result array-read-result cast-result returns)
