@@ -107,6 +107,11 @@ module _ (b : ℕ) (p : Power) (is : p ≡ raised b) where
     unfolding between
     between-is = rw is
 
+    -- from the code's numbers
+    pub edge-is : (up down r : ℕ) → up ≡ positive (p .exponent +ℤ pos 126) → down ≡ positive (negℤ (p .exponent +ℤ pos 126))
+        → r ≡ up * 2 ^ 23 + nearest (p .size) (39 + down) → between b ≡ min r 0x7f80_0000
+    edge-is up down r e1 e2 e3 = rw (e3, e1, e2) between-is
+
   -- in the ordinary range
   module _ (h : b % 2 ^ 31 < 0x42ae_0000) where
     mag-o : mag (p .exponent) < 126

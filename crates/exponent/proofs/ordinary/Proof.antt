@@ -1,3 +1,7 @@
+use Rattle.exponent.specs.Exp.{expBits}
+use lib.Ieee.{ofBits}
+use Rattle.single.proofs.Nan.{no-nan-pattern}
+use Rattle.exponent.proofs.Rounding.{e-back, q-fits, q-back, q-nonNeg, q-lt, r-lt, exp-is}
 use mathlib.Core.Path.{_≡_, refl, sym, _∙_, ap}
 use Prim.Native.Nat.{ℕ, _+_, _*_, _-_, _/_, _%_, _≤_, _<_}
 use native.Mathlib.Omega.{arith}
@@ -17,27 +21,27 @@ raised-of-requires c κs = search needs
 
 -- src/lib.rt:368:13
 add-q : tie.Need-add-q
-add-q c = search needs
+add-q c = rw (e-back (c .before .before .before .args .bits) (c .before .before .raised-of .result) (c .before .before .raised-of .ensures) (omega arith)) (q-fits (c .before .before .before .args .bits) (c .before .before .raised-of .result) (c .before .before .raised-of .ensures) (omega arith))
 
 -- src/lib.rt:369:31
 cast-pattern-of : tie.Need-cast-pattern-of
-cast-pattern-of c = search needs
+cast-pattern-of c = rw (e-back (c .before .before .before .args .bits) (c .before .before .raised-of .result) (c .before .before .raised-of .ensures) (omega arith), q-back (c .before .before .before .args .bits) (c .before .before .raised-of .result) (c .before .before .raised-of .ensures) (omega arith)) (q-nonNeg (c .before .before .before .args .bits) (c .before .before .raised-of .result) (c .before .before .raised-of .ensures) (c .before .before .before .pre), record { fits = omega (arith, q-lt (c .before .before .before .args .bits) (c .before .before .raised-of .result) (c .before .before .raised-of .ensures) (c .before .before .before .pre)) })
 
 -- src/lib.rt:369:20
 pattern-of-requires : tie.Need-pattern-of-requires
-pattern-of-requires c κs = search needs
+pattern-of-requires c κs = rw (e-back (c .before .before .before .args .bits) (c .before .before .raised-of .result) (c .before .before .raised-of .ensures) (omega arith), q-back (c .before .before .before .args .bits) (c .before .before .raised-of .result) (c .before .before .raised-of .ensures) (omega arith)) (omega (arith, q-lt (c .before .before .before .args .bits) (c .before .before .raised-of .result) (c .before .before .raised-of .ensures) (c .before .before .before .pre)), search needs)
 
 -- src/lib.rt:369:20
 cast-result : tie.Need-cast-result
-cast-result c = search needs
+cast-result c = record { fits = omega (arith, rw (e-back (c .before .before .before .before .args .bits) (c .before .before .before .raised-of .result) (c .before .before .before .raised-of .ensures) (omega arith), q-back (c .before .before .before .before .args .bits) (c .before .before .before .raised-of .result) (c .before .before .before .raised-of .ensures) (omega arith)) at (c .pattern-of .ensures), r-lt (c .before .before .before .before .args .bits) (c .before .before .before .raised-of .result) (c .before .before .before .raised-of .ensures) (c .before .before .before .before .pre)) }
 
 -- src/lib.rt:369:5
 float-from-bits-result : tie.Need-float-from-bits-result
-float-from-bits-result c = search needs
+float-from-bits-result c = no-nan-pattern _ (omega (arith, rw (e-back (c .before .before .before .before .args .bits) (c .before .before .before .raised-of .result) (c .before .before .before .raised-of .ensures) (omega arith), q-back (c .before .before .before .before .args .bits) (c .before .before .before .raised-of .result) (c .before .before .before .raised-of .ensures) (omega arith)) at (c .pattern-of .ensures), r-lt (c .before .before .before .before .args .bits) (c .before .before .before .raised-of .result) (c .before .before .before .raised-of .ensures) (c .before .before .before .before .pre)))
 
 -- src/lib.rt:363:1
 returns : tie.Need-returns
-returns c = search needs
+returns c = ap (ofBits binary32) (rw (e-back (c .before .before .before .before .args .bits) (c .before .before .before .raised-of .result) (c .before .before .before .raised-of .ensures) (omega arith), q-back (c .before .before .before .before .args .bits) (c .before .before .before .raised-of .result) (c .before .before .before .raised-of .ensures) (omega arith)) at (c .pattern-of .ensures) ∙ sym (exp-is (c .before .before .before .before .args .bits) (c .before .before .before .raised-of .result) (c .before .before .before .raised-of .ensures) (c .before .before .before .before .pre)))
 
 pub ordinary-spec : {M : Type 1} → statement M
 ordinary-spec =
