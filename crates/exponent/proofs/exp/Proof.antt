@@ -1,3 +1,4 @@
+use Rattle.exponent.specs.Exp.{E}
 use mathlib.Core.Path.{_≡_, refl, sym, _∙_, ap}
 use Prim.Native.Nat.{ℕ, _+_, _*_, _-_, _/_, _%_, _≤_, _<_}
 use native.Mathlib.Omega.{arith}
@@ -22,7 +23,8 @@ ordinary-requires c κs = search needs
 
 -- src/lib.rt:417:9
 returns : tie.Need-returns
-returns c = ?
+unfolding E
+returns c = c .ordinary .ensures ∙ rw (c .before .before .to-bits .ensures)
 
 -- src/lib.rt:419:5
 seldom-requires : tie.Need-seldom-requires
@@ -30,7 +32,8 @@ seldom-requires c κs = search needs
 
 -- src/lib.rt:412:1
 returns-2 : tie.Need-returns-2
-returns-2 c = ?
+unfolding E
+returns-2 c = c .seldom .ensures ∙ rw (c .before .before .to-bits .ensures)
 
 pub exp-spec : {M : Type 1} → statement M
 exp-spec =
