@@ -1,2 +1,4 @@
 pub mod Nan
 pub mod Sum
+pub mod Order
+pub mod Table

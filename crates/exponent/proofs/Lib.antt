@@ -1,0 +1,5 @@
+pub mod Signed
+pub mod Entries
+pub mod Ranges
+pub mod Guards
+pub mod Rounding
