@@ -1,4 +1,7 @@
-// Carries activation.rs. Document 01, 'The recurrence' (ReLU, LeakyReLU, Sigmoid) and the form "an activation with its slope is one value".
+// Carries activation.rs. Document 01, 'The recurrence' (ReLU, LeakyReLU, Sigmoid), 'Tanh and exp', and the form "an activation with its slope is one
+// value".
+ghost use mathlib.Core.Path.{_≡_};
+ghost use Rattle.activation.specs.Activated.{relu, leaky, sigmoid, activated};
 
 // An activation with its slope.
 pub enum Activation {
@@ -6,4 +9,43 @@ pub enum Activation {
     Relu,
     Sigmoid,
     LeakyRelu(f32),
+}
+
+// x above 0 is kept, all else, -0 and NaN too, gives +0.
+pub fn relu_of(x: f32) -> f32
+    ensures { λ r. ⌜ r ≡ relu x ⌝ }
+{
+    if x > 0.0 {
+        return x;
+    }
+    0.0
+}
+
+// x above 0 is kept, else slope times x.
+fn leaky_of(slope: f32, x: f32) -> f32
+    ensures { λ r. ⌜ r ≡ leaky slope x ⌝ }
+{
+    if x > 0.0 {
+        return x;
+    }
+    slope * x
+}
+
+fn sigmoid_of(x: f32) -> f32
+    ensures { λ r. ⌜ r ≡ sigmoid x ⌝ }
+{
+    1.0 / (1.0 + exponent::exp(-x))
+}
+
+impl Activation {
+    pub fn apply(self, x: f32) -> f32
+        ensures { λ r. ⌜ r ≡ activated self x ⌝ }
+    {
+        match self {
+            Activation::Tanh => tangent::tanh(x),
+            Activation::Relu => relu_of(x),
+            Activation::Sigmoid => sigmoid_of(x),
+            Activation::LeakyRelu(slope) => leaky_of(slope, x),
+        }
+    }
 }
