@@ -1,7 +1,12 @@
 // Carries activation.rs. Document 01, 'The recurrence' (ReLU, LeakyReLU, Sigmoid), 'Tanh and exp', and the form "an activation with its slope is one
 // value".
 ghost use mathlib.Core.Path.{_≡_};
+ghost use Prim.Native.Nat.{_+_, _≤_};
+ghost use lib.ListN.{length};
+ghost use Rattle.lists.specs.Tab.{at, fill};
 ghost use Rattle.activation.specs.Activated.{relu, leaky, sigmoid, activated};
+
+mod over;
 
 // An activation with its slope.
 pub enum Activation {
@@ -46,6 +51,19 @@ impl Activation {
             Activation::Relu => relu_of(x),
             Activation::Sigmoid => sigmoid_of(x),
             Activation::LeakyRelu(slope) => leaky_of(slope, x),
+        }
+    }
+
+    // n numbers of a buffer from `from` on, to `to` on.
+    pub fn apply_over(self, work: &mut [f32], to: usize, from: usize, n: usize)
+        requires { ⌜ (to ≤ from) × (from + n ≤ length (now work)) ⌝ }
+        ensures { λ _. ⌜ now (work .exit) ≡ fill to n (λ i. activated self (at (now (work .entry)) (from + i))) (now (work .entry)) ⌝ }
+    {
+        match self {
+            Activation::Tanh => over::tanh_over(work, to, from, n),
+            Activation::Relu => over::relu_over(work, to, from, n),
+            Activation::Sigmoid => over::sigmoid_over(work, to, from, n),
+            Activation::LeakyRelu(slope) => over::leaky_over(work, to, from, n, slope),
         }
     }
 }
