@@ -27,25 +27,26 @@ def row(a):
             int(nint(-s[2] * 1024)), int(nint((-s[2] - s[3]) * 1024))]
 
 
+NAMES = ["base", "start", "slope", "bend", "bent"]
+
+
 def main():
     rows = [row(LOW + (i << STRETCH)) for i in range((HIGH - LOW) >> STRETCH)]
     here = os.path.join(os.path.dirname(os.path.abspath(__file__)), "..", "crates", "tangent")
     with open(os.path.join(here, "src", "rows.rt"), "w") as f:
-        f.write("// The rows of Tanh: base, start, slope, bend at the low end, bend at the high end, for each stretch of 2^18 patterns from 2^-13 to 10.\n")
-        f.write("// specs/Rows.antt has the same numbers; tools/tanh_rows.py made both.\n")
-        f.write("pub const ROWS: [u32; %d] = [\n" % (5 * len(rows)))
-        for r in rows:
-            for n in r:
-                f.write("    %d,\n" % n)
-        f.write("];\n")
+        f.write("// The rows of Tanh, a table for each number of a row. specs/Rows.antt has the same numbers; tools/tanh_rows.py made both.\n")
+        for k, name in enumerate(NAMES):
+            f.write("pub const %s: [u32; %d] = [\n" % (name.upper() + "S", len(rows)))
+            f.write("".join("    %d,\n" % r[k] for r in rows) + "];\n")
     with open(os.path.join(here, "specs", "Rows.antt"), "w") as f:
-        f.write("-- The rows of Tanh, five numbers each: base, start, slope, bend at the low end, bend at the high end, for each stretch of 2^18 patterns\n")
-        f.write("-- from 2^-13 to 10. tools/tanh_rows.py made them.\n")
-        f.write("use mathlib.Core.List.{List, [], _∷_}\nuse Prim.Native.Nat.{ℕ}\n\n")
-        f.write("unfoldable pub rows : List ℕ\nrows =\n")
-        for r in rows:
-            f.write("    " + " ∷ ".join(map(str, r)) + " ∷\n")
-        f.write("    []\n")
+        f.write("-- The rows of Tanh, a table for each number of a row, one row for each stretch of 2^18 patterns from 2^-13 to 10.\n")
+        f.write("-- tools/tanh_rows.py made them.\n")
+        f.write("use mathlib.Core.List.{List, [], _∷_}\nuse Prim.Native.Nat.{ℕ}\n")
+        for k, name in enumerate(NAMES):
+            f.write("\nunfoldable pub %ss : List ℕ\n%ss =\n" % (name, name))
+            for i in range(0, len(rows), 8):
+                f.write("    " + " ∷ ".join(str(r[k]) for r in rows[i:i + 8]) + " ∷\n")
+            f.write("    []\n")
 
 
 main()

@@ -6,7 +6,7 @@ use Prim.Native.Nat.{ℕ, _+_, _-_, _*_, _/_, _%_, _^_, min}
 use lib.ListN.{getD}
 use lib.Dec.{leb, ltb}
 use lib.Ieee.{Float, binary32, ofBits, toBits}
-use Rattle.tangent.specs.Rows.{rows}
+use Rattle.tangent.specs.Rows.{bases, starts, slopes, bends, bents}
 use Rattle.tangent.specs.declared.Row.{Row}
 
 -- 2^-13, 10, 1, infinity and the NaN, by their patterns
@@ -27,14 +27,8 @@ notANumber = 0x7fc0_0000
 
 -- row i
 unfoldable pub rowOf : ℕ → Row
-unfolding rows
-rowOf i = record {
-  base = getD rows (5 * i) 0;
-  start = getD rows (5 * i + 1) 0;
-  slope = getD rows (5 * i + 2) 0;
-  bend = getD rows (5 * i + 3) 0;
-  bent = getD rows (5 * i + 4) 0;
-}
+unfolding bases starts slopes bends bents
+rowOf i = record { base = getD bases i 0; start = getD starts i 0; slope = getD slopes i 0; bend = getD bends i 0; bent = getD bents i 0 }
 
 -- the cubic: how much it bends at d, its slope to there, and its value there, tanh in units of 2^-30 of the binade, 32 added
 unfoldable pub bendAt : Row → ℕ → ℕ

@@ -24,13 +24,12 @@ fn row_at(i: usize) -> Row
     requires { ⌜ i < 520 ⌝ }
     ensures { λ r. ⌜ r ≡ rowOf i ⌝ }
 {
-    let at = 5 * i;
     Row {
-        base: wide(rows::ROWS[at]),
-        start: wide(rows::ROWS[at + 1]),
-        slope: wide(rows::ROWS[at + 2]),
-        bend: wide(rows::ROWS[at + 3]),
-        bent: wide(rows::ROWS[at + 4]),
+        base: wide(rows::BASES[i]),
+        start: wide(rows::STARTS[i]),
+        slope: wide(rows::SLOPES[i]),
+        bend: wide(rows::BENDS[i]),
+        bent: wide(rows::BENTS[i]),
     }
 }
 
