@@ -3,3 +3,4 @@ pub mod Entries
 pub mod Ranges
 pub mod Guards
 pub mod Rounding
+pub mod Facts

@@ -7,11 +7,11 @@ use mathlib.Core.Bool.{Bool, true, false, not, _&&_, _||_, cond}
 use Prim.Native.Nat.{ℕ, zero, suc, _+_, _-_, _*_, _/_, _%_, _^_, _≤_, _<_, zero-le, suc-le-suc}
 use native.Mathlib.Nat.{le-refl, le-of-lt, le-of-eq, le-trans, lt-of-le-of-lt, le-antisymm, eq-or-lt-of-le, suc-mul, mul-le-mul-right, mul-right-comm, mul-assoc, mul-comm, mul-lt-mul-of-pos-right, le-div-iff-mul-le, div-lt-iff-lt-mul, zero-add, zero-mul, zero-div, mul-pos}
 use native.Mathlib.Omega.{arith}
-use borrow.Author.Tests.{lt-ltb, eq-eqb}
-use lib.IntN.{ℤ}
-use lib.Dec.{T, ltb, leb, eqb, eqb→eq, ltb→lt}
+use borrow.Author.Tests.{lt-ltb, le-ltb, lt-leb, eq-eqb}
+use lib.IntN.{ℤ, pos}
+use lib.Dec.{T, ltb, leb, eqb, eqb→eq, ltb→lt, lit<}
 use lib.Pow.{pow-add, pow-pos, shr-mono}
-use lib.Ieee.{Float, nan, inf, fin, Format, binary32, binary64, prec, emax, low, up, down, size, hid, ones, top, toBits, ofBits, fits, le, neg}
+use lib.Ieee.{Float, nan, inf, fin, Format, binary32, binary64, prec, emax, low, up, down, size, hid, ones, top, toBits, ofBits, ofFields, odd, fits, lt, le, neg}
 use lib.Ieee.Digits.{size-lt, size-le, size-reaches}
 use lib.Ieee.Fits.{and-l, and-r, kept-lt, down-pos, up-pos, two, two-le-pos}
 use lib.Ieee.Bits.{ofBits-toBits}
@@ -132,6 +132,17 @@ pub le→bits : (f : Format) (x y : Float) → T (unsigned x) → T (unsigned y)
 le→bits f x y p q i h =
     rw (bits-are f x p, bits-are f y q) (digits-mono (prec f) (amount f x) (amount f y) (two-le-pos (prec f) (two f)) (le-amount f x y p q i h))
 
+-- up to the infinity's, which is below the sign's bit
+amount-le : (f : Format) (x : Float) → T (unsigned x) → T (fits f x) → amount f x ≤ 2 ^ (low f + suc (emax f))
+amount-le f nan p i = absurd p
+amount-le f (inf s) p i = le-refl _
+amount-le f (fin true m e) p i = absurd p
+amount-le f (fin false m e) p i = le-of-lt (amount-lt f m e i)
+
+pub bits-le : (f : Format) (x : Float) → T (unsigned x) → T (fits f x) → toBits f x ≤ ones f * hid f
+bits-le f x p i =
+    rw (bits-are f x p, infinite f) (digits-mono (prec f) (amount f x) (2 ^ (low f + suc (emax f))) (two-le-pos (prec f) (two f)) (amount-le f x p i))
+
 -- of two floats without a sign one is no larger than the other
 total : (x y : Float) → T (unsigned x) → T (unsigned y) → T (le x y) ⊎ T (le y x)
 unfolding le
@@ -226,3 +237,55 @@ signed-of-le (fin false n d) (fin false m e) p h =
     let none = eqb→eq a 0 (and-r (eqb a b) (eqb a 0) h) in
     let some = mul-pos (mul-pos (ltb→lt 0 n p) (up-pos d)) (down-pos e) in
     absurd (omega arith)
+
+-- ---- a pattern below the sign's bit has no sign: it is a NaN's or a float's without one
+abbrev pub signless : Float → Bool
+signless nan = true
+signless (inf s) = not s
+signless (fin s m e) = not s
+
+odd-signless : (d q k l : ℕ) → T (signless (odd d false q k l))
+unfolding odd
+odd-signless d zero k l = tt
+odd-signless d (suc q) k l = tt
+
+cond-signless : (t : Bool) (x y : Float) → T (signless x) → T (signless y) → T (signless (cond t x y))
+cond-signless true x y p q = p
+cond-signless false x y p q = q
+
+fields-signless : (f : Format) (x t : ℕ) → T (signless (ofFields f false x t))
+unfolding ofFields
+fields-signless f zero t = odd-signless (prec f) t 0 (low f)
+fields-signless f (suc x) t =
+    cond-signless (eqb (suc x) (ones f)) (cond (eqb t 0) (inf false) nan) (odd (prec f) false (hid f + t) x (low f))
+    (cond-signless (eqb t 0) (inf false) nan tt tt) (odd-signless (prec f) (hid f + t) x (low f))
+
+pub pattern-signless : (f : Format) (b : ℕ) → b < top f → T (signless (ofBits f b))
+unfolding ofBits
+pattern-signless f b h = rw (lt-leb (top f) b h) (fields-signless f (b % top f / hid f) (b % hid f))
+
+-- it is not below +0, it is not -0, and its own pattern is below the sign's bit
+pub signless-lt : (x : Float) → T (signless x) → lt x (fin false 0 (pos 0)) ≡ false
+unfolding lt
+signless-lt nan p = refl
+signless-lt (inf true) p = absurd p
+signless-lt (inf false) p = refl
+signless-lt (fin true m e) p = absurd p
+signless-lt (fin false m e) p = le-ltb (m * up e * 1) (0 * down e) (omega (arith, zero-mul (down e)))
+
+pub signless-zero : (x : Float) → T (signless x) → x ≡ fin true 0 (pos 0) → ⊥
+signless-zero x p e = subst (λ (z : Float). T (signless z)) e p
+
+infinity-lt : (f : Format) → ones f * hid f < top f
+infinity-lt binary32 = lit< tt
+infinity-lt binary64 = lit< tt
+
+nan-lt : (f : Format) → toBits f nan < top f
+unfolding toBits
+nan-lt binary32 = lit< tt
+nan-lt binary64 = lit< tt
+
+pub signless-bits : (f : Format) (x : Float) → T (signless x) → T (fits f x) → toBits f x < top f
+signless-bits f nan p i = nan-lt f
+signless-bits f (inf s) p i = lt-of-le-of-lt (bits-le f (inf s) p i) (infinity-lt f)
+signless-bits f (fin s m e) p i = lt-of-le-of-lt (bits-le f (fin s m e) p i) (infinity-lt f)
