@@ -1,7 +1,7 @@
 -- What document 01 asks of E and its table ('Tanh and exp'), each a theorem about every float of the format. Assumes nothing.
 use mathlib.Core.Path.{_≡_, refl, sym, ap, _∙_, subst}
 use mathlib.Core.Logic.{⊎-elim}
-use mathlib.Core.Bool.{true, false}
+use mathlib.Core.Bool.{Bool, true, false, not}
 use Prim.Native.Nat.{ℕ, _+_, _-_, _*_, _%_, _^_, _≤_, _<_}
 use native.Mathlib.Nat.{lt-of-le-of-lt}
 use native.Mathlib.Omega.{arith}
@@ -10,8 +10,8 @@ use lib.IntN.{pos, negsuc}
 use lib.ListN.{length}
 use lib.Ieee.{Float, nan, inf, fin, binary32, toBits, ofBits, ofInt, fits, le, lt, neg, isNan, nanBits}
 use lib.Ieee.Fits.{neg-fits}
-use lib.Ieee.Bits.{ofBits-fits}
-use Rattle.single.proofs.Order.{unsigned, le-or-lt, le→bits, bits-le, neg-neg, neg-bits, neg-le, unsigned-of-le, signed-of-le, signless, pattern-signless, signless-lt, signless-zero, signless-bits}
+use lib.Ieee.Bits.{ofBits-fits, nanBits-is}
+use Rattle.single.proofs.Order.{unsigned, le-or-lt, le→bits, bits-le, neg-neg, signed-bits, neg-le, unsigned-of-le, signed-of-le, signless, pattern-signless, signless-lt, signless-zero, signless-bits}
 use Rattle.single.proofs.Nan.{no-nan-pattern}
 use Rattle.exponent.specs.Table.{table, entry}
 use Rattle.exponent.specs.Exp.{pattern, between, expBits, E}
@@ -34,6 +34,11 @@ one-at-zero = refl
 pub one-at-minus-zero : E (fin true 0 (pos 0)) ≡ ofInt binary32 (pos 1)
 unfolding E entry toBits ofBits ofInt
 one-at-minus-zero = refl
+
+-- and the nearest float to e at 1, as a sample
+pub e-at-one : expBits 0x3f80_0000 ≡ 0x402d_f854
+unfolding expBits entry
+e-at-one = refl
 
 -- ---- NaN gives NaN
 pub nan-at-nan : E nan ≡ nan
@@ -89,7 +94,7 @@ zero-to-minus-104 x i h =
     let turned = neg-le (neg x) low u tt (subst (λ (z : Float). T (le z (neg low))) (sym (neg-neg x)) l) in
     let above = le→bits binary32 low (neg x) tt u low-fits turned in
     let below = bits-le binary32 (neg x) u (neg-fits binary32 x i) in
-    let is = ap (toBits binary32) (sym (neg-neg x)) ∙ neg-bits binary32 (neg x) u in
+    let is = signed-bits binary32 x u in
     ap (ofBits binary32) (at-low (toBits binary32 x) (omega arith) (omega arith) (omega (arith, low-bits)))
 
 -- ---- no E is negative: its pattern is below the sign's bit, it is not below +0, and it is not -0
@@ -126,3 +131,19 @@ not-below-zero x = signless-lt (E x) (without-sign x)
 
 pub not-minus-zero : (x : Float) → E x ≡ fin true 0 (pos 0) → ⊥
 not-minus-zero x = signless-zero (E x) (without-sign x)
+
+-- ---- and NaN alone does
+pattern-le : (x : Float) → T (fits binary32 x) → T (not (isNan x)) → toBits binary32 x % 2 ^ 31 ≤ 0x7f80_0000
+unfolding isNan neg
+pattern-le nan i n = absurd n
+pattern-le (inf false) i n = omega (arith, bits-le binary32 (inf false) tt i)
+pattern-le (fin false m e) i n = omega (arith, bits-le binary32 (fin false m e) tt i)
+pattern-le (inf true) i n = omega (arith, signed-bits binary32 (inf true) tt, bits-le binary32 (inf false) tt (neg-fits binary32 (inf true) i))
+pattern-le (fin true m e) i n = omega (arith, signed-bits binary32 (fin true m e) tt, bits-le binary32 (fin false m e) tt (neg-fits binary32 (fin true m e) i))
+
+pub number-at-number : (x : Float) → T (fits binary32 x) → T (not (isNan x)) → T (not (isNan (E x)))
+unfolding E
+number-at-number x i n =
+    let b = expBits (toBits binary32 x) in
+    let h = exp-le (toBits binary32 x) (pattern-le x i n) in
+    subst (λ (t : Bool). T (not t)) (nanBits-is binary32 b) (no-nan-pattern b (omega arith))

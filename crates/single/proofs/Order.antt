@@ -191,6 +191,9 @@ neg-bits f (inf false) p = omega arith
 neg-bits f (fin true m e) p = absurd p
 neg-bits f (fin false m e) p = omega arith
 
+pub signed-bits : (f : Format) (x : Float) → T (unsigned (neg x)) → toBits f x ≡ top f + toBits f (neg x)
+signed-bits f x p = ap (toBits f) (sym (neg-neg x)) ∙ neg-bits f (neg x) p
+
 pub neg-le : (x y : Float) → T (unsigned x) → T (unsigned y) → T (le (neg x) (neg y)) → T (le y x)
 unfolding neg le
 neg-le nan y p q h = absurd p
