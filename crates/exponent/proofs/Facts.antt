@@ -15,7 +15,7 @@ use Rattle.single.proofs.Order.{unsigned, le-or-lt, le→bits, bits-le, neg-neg
 use Rattle.single.proofs.Nan.{no-nan-pattern}
 use Rattle.exponent.specs.Table.{table, entry}
 use Rattle.exponent.specs.Exp.{pattern, between, expBits, E}
-use Rattle.exponent.proofs.Entries.{rule-at}
+use Rattle.exponent.proofs.Rule.{rule-at}
 use Rattle.exponent.proofs.Guards.{at-nan, at-high, at-low, at-positive, at-negative}
 
 -- ---- the table: 256 entries, and the rule at each
@@ -107,9 +107,9 @@ exp-le : (b : ℕ) → b % 2 ^ 31 ≤ 0x7f80_0000 → expBits b ≤ 0x7f80_0000
 exp-le b n =
     ⊎-elim
     (λ (s : 2 ^ 31 ≤ b).
-        ⊎-elim (λ l. omega (arith, at-low b n s l)) (λ l. omega (arith, at-negative b s l, between-le b)) (le-or-lt 0x42d0_0000 (b % 2 ^ 31)))
+    ⊎-elim (λ l. omega (arith, at-low b n s l)) (λ l. omega (arith, at-negative b s l, between-le b)) (le-or-lt 0x42d0_0000 (b % 2 ^ 31)))
     (λ (s : b < 2 ^ 31).
-        ⊎-elim (λ l. omega (arith, at-high b n s l)) (λ l. omega (arith, at-positive b s l, between-le b)) (le-or-lt 0x42b2_0000 (b % 2 ^ 31)))
+    ⊎-elim (λ l. omega (arith, at-high b n s l)) (λ l. omega (arith, at-positive b s l, between-le b)) (le-or-lt 0x42b2_0000 (b % 2 ^ 31)))
     (le-or-lt (2 ^ 31) b)
 
 exp-lt : (b : ℕ) → expBits b < 2 ^ 31

@@ -16,7 +16,7 @@ use Rattle.exponent.specs.Table.{entry}
 use Rattle.exponent.specs.Split.{parts}
 use Rattle.exponent.specs.declared.Parts.{Parts}
 use Rattle.exponent.specs.Exp.{nearest, size, scaled, power, raised}
-use Rattle.exponent.proofs.Entries.{digits-at}
+use Rattle.exponent.proofs.Rule.{digits-at}
 use Rattle.exponent.proofs.Signed.{back, signed, mag-signed, mag-quotient}
 
 -- ---- shifts

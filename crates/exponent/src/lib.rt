@@ -8,7 +8,7 @@ ghost use mathlib.Core.Path.{_≡_};
 ghost use Prim.Native.Nat.{_+_, _*_, _%_, _^_, _<_, _≤_};
 ghost use lib.Signed.{mag};
 ghost use lib.Ieee.{binary32, ofBits};
-ghost use Rattle.exponent.specs.Table.{entry};
+ghost use Rattle.exponent.specs.Table.{table, entry};
 ghost use Rattle.exponent.specs.Exp.{nearest, positive, size, scaled, power, raised, between, expBits, E};
 ghost use Rattle.exponent.specs.Split.{Splits};
 
@@ -298,22 +298,29 @@ fn split(whole: i64, bits: u32) -> Parts
     }
 }
 
+// The table, for a caller to keep and lend.
+pub fn entries() -> [u32; 256]
+    ensures { λ r. ⌜ r ≡ table ⌝ }
+{
+    TABLE
+}
+
 // Entry j of the table.
-fn table_at(j: u64) -> u64
-    requires { ⌜ j < 256 ⌝ }
+fn entry_of(t: &[u32; 256], j: u64) -> u64
+    requires { ⌜ (now t ≡ table) × (j < 256) ⌝ }
     ensures { λ r. ⌜ r ≡ entry j ⌝ }
 {
-    TABLE[j as usize] as u64
+    t[j as usize] as u64
 }
 
 // 2^(j/256 + f/2^32) in 1 / 2^62.
-pub fn power_at(j: u64, f: u64) -> u64
-    requires { ⌜ (j < 256) × (f < 2 ^ 24) ⌝ }
+pub fn power_of(t: &[u32; 256], j: u64, f: u64) -> u64
+    requires { ⌜ (now t ≡ table) × (j < 256) × (f < 2 ^ 24) ⌝ }
     ensures { λ r. ⌜ r ≡ power j f ⌝ }
 {
     let c = 1488522236 + f * 2016986 / 16777216;
     let w = f * c / 2147483648;
-    table_at(j) * (4294967296 + w)
+    entry_of(t, j) * (4294967296 + w)
 }
 
 // |x| log2 e in 1 / 2^32. A shift by 63 leaves 0, as any longer one would.
@@ -339,15 +346,15 @@ fn scaled_of(bits: u32) -> i64
 }
 
 // e^x, before it is rounded to a float.
-fn raised_of(bits: u32) -> Power
-    requires { ⌜ bits % 2 ^ 31 < 0x42d0_0000 ⌝ }
+fn raised_of(t: &[u32; 256], bits: u32) -> Power
+    requires { ⌜ (now t ≡ table) × (bits % 2 ^ 31 < 0x42d0_0000) ⌝ }
     ensures { λ r. ⌜ r ≡ raised bits ⌝ }
 {
     let k = split(scaled_of(bits), 24);
     let j = split(k.quotient, 8);
     Power {
         exponent: j.quotient,
-        size: power_at(j.remainder, k.remainder),
+        size: power_of(t, j.remainder, k.remainder),
     }
 }
 
@@ -360,11 +367,11 @@ fn pattern_of(up: u64, down: u64, size: u64) -> u64
 }
 
 // |x| below 87: the result is no subnormal and no infinity.
-fn ordinary(bits: u32) -> f32
-    requires { ⌜ bits % 2 ^ 31 < 0x42ae_0000 ⌝ }
+fn ordinary(t: &[u32; 256], bits: u32) -> f32
+    requires { ⌜ (now t ≡ table) × (bits % 2 ^ 31 < 0x42ae_0000) ⌝ }
     ensures { λ r. ⌜ r ≡ ofBits binary32 (expBits bits) ⌝ }
 {
-    let p = raised_of(bits);
+    let p = raised_of(t, bits);
     let q = p.exponent + 126;
     f32::from_bits(pattern_of(q as u64, 0, p.size) as u32)
 }
@@ -380,11 +387,11 @@ fn positive_of(z: i64) -> u64
 }
 
 // The values between the guards, where the result may be a subnormal or overflow.
-fn edge(bits: u32) -> f32
-    requires { ⌜ bits % 2 ^ 31 < 0x42d0_0000 ⌝ }
+fn edge(t: &[u32; 256], bits: u32) -> f32
+    requires { ⌜ (now t ≡ table) × (bits % 2 ^ 31 < 0x42d0_0000) ⌝ }
     ensures { λ r. ⌜ r ≡ ofBits binary32 (between bits) ⌝ }
 {
-    let p = raised_of(bits);
+    let p = raised_of(t, bits);
     let q = p.exponent + 126;
     let r = pattern_of(positive_of(q), positive_of(0 - q), p.size);
     if 0x7f80_0000 < r {
@@ -394,7 +401,8 @@ fn edge(bits: u32) -> f32
 }
 
 // All other values: NaN, the guards, and the edges.
-fn seldom(bits: u32) -> f32
+fn seldom(t: &[u32; 256], bits: u32) -> f32
+    requires { ⌜ now t ≡ table ⌝ }
     ensures { λ r. ⌜ r ≡ ofBits binary32 (expBits bits) ⌝ }
 {
     let a = bits % 0x8000_0000;
@@ -405,21 +413,30 @@ fn seldom(bits: u32) -> f32
         if 0x42b2_0000 <= a {
             return f32::from_bits(0x7f80_0000);
         }
-        return edge(bits);
+        return edge(t, bits);
     }
     if 0x42d0_0000 <= a {
         return f32::from_bits(0);
     }
-    edge(bits)
+    edge(t, bits)
 }
 
-// e^x, by E.
-pub fn exp(x: f32) -> f32
+// E, with the table lent: a loop keeps the table of entries and spares its making at each step.
+pub fn exp_by(t: &[u32; 256], x: f32) -> f32
+    requires { ⌜ now t ≡ table ⌝ }
     ensures { λ r. ⌜ r ≡ E x ⌝ }
 {
     let bits = to_bits(x);
     if bits % 0x8000_0000 < 0x42ae_0000 {
-        return ordinary(bits);
+        return ordinary(t, bits);
     }
-    seldom(bits)
+    seldom(t, bits)
+}
+
+// E.
+pub fn exp(x: f32) -> f32
+    ensures { λ r. ⌜ r ≡ E x ⌝ }
+{
+    let t = entries();
+    exp_by(&t, x)
 }

@@ -170,8 +170,8 @@ pub bits→le : (f : Format) (x y : Float) → T (unsigned x) → T (unsigned y)
 bits→le f x y p q i j h =
     ⊎-elim (λ t. t)
     (λ t.
-        let e = le-antisymm h (le→bits f y x q p j t) in
-        subst (λ (z : Float). T (le x z)) (sym (ofBits-toBits f x i) ∙ ap (ofBits f) e ∙ ofBits-toBits f y j) (itself x p))
+    let e = le-antisymm h (le→bits f y x q p j t) in
+    subst (λ (z : Float). T (le x z)) (sym (ofBits-toBits f x i) ∙ ap (ofBits f) e ∙ ofBits-toBits f y j) (itself x p))
     (total x y p q)
 
 -- ---- floats with a sign

@@ -1,8 +1,6 @@
-use lib.Ieee.{nanBits}
-use Rattle.exponent.proofs.Rounding.{edge-is}
-use lib.Ieee.{ofBits}
+use lib.Ieee.{ofBits, nanBits}
 use Rattle.single.proofs.Nan.{no-nan-pattern}
-use Rattle.exponent.proofs.Rounding.{e-back, q-fits, q-back, minus-fits, minus-back, up-small, down-small, between-is}
+use Rattle.exponent.proofs.Rounding.{e-back, q-fits, q-back, minus-fits, minus-back, up-small, down-small, edge-is}
 use mathlib.Core.Path.{_≡_, refl, sym, _∙_, ap}
 use Prim.Native.Nat.{ℕ, _+_, _*_, _-_, _/_, _%_, _≤_, _<_}
 use native.Mathlib.Omega.{arith}
@@ -17,50 +15,50 @@ use Rattle.exponent.proofs.pattern_of.Reads as pattern-of-reads
 use Rattle.exponent.proofs.positive_of.Reads as positive-of-reads
 use Rattle.exponent.proofs.raised_of.Reads as raised-of-reads
 
--- src/lib.rt:387:9
+-- src/lib.rt:394:9
 raised-of-requires : tie.Need-raised-of-requires
 raised-of-requires c κs = search needs
 
--- src/lib.rt:388:13
+-- src/lib.rt:395:13
 add-q : tie.Need-add-q
-add-q c = rw (e-back (c .before .before .before .args .bits) (c .before .before .raised-of .result) (c .before .before .raised-of .ensures) (c .before .before .before .pre)) (q-fits (c .before .before .before .args .bits) (c .before .before .raised-of .result) (c .before .before .raised-of .ensures) (c .before .before .before .pre))
+add-q c = rw (e-back (c .before .before .before .args .bits) (c .before .before .raised-of .result) (c .before .before .raised-of .ensures) (c .before .before .before .pre .1)) (q-fits (c .before .before .before .args .bits) (c .before .before .raised-of .result) (c .before .before .raised-of .ensures) (c .before .before .before .pre .1))
 
--- src/lib.rt:389:24
+-- src/lib.rt:396:24
 positive-of-requires : tie.Need-positive-of-requires
 positive-of-requires c κs = search needs
 
--- src/lib.rt:389:52
+-- src/lib.rt:396:52
 sub-positive-of : tie.Need-sub-positive-of
-sub-positive-of c = rw (e-back (c .before .before .before .before .args .bits) (c .before .before .before .raised-of .result) (c .before .before .before .raised-of .ensures) (c .before .before .before .before .pre), q-back (c .before .before .before .before .args .bits) (c .before .before .before .raised-of .result) (c .before .before .before .raised-of .ensures) (c .before .before .before .before .pre)) (minus-fits (c .before .before .before .before .args .bits) (c .before .before .before .raised-of .result) (c .before .before .before .raised-of .ensures) (c .before .before .before .before .pre))
+sub-positive-of c = rw (e-back (c .before .before .before .before .args .bits) (c .before .before .before .raised-of .result) (c .before .before .before .raised-of .ensures) (c .before .before .before .before .pre .1), q-back (c .before .before .before .before .args .bits) (c .before .before .before .raised-of .result) (c .before .before .before .raised-of .ensures) (c .before .before .before .before .pre .1)) (minus-fits (c .before .before .before .before .args .bits) (c .before .before .before .raised-of .result) (c .before .before .before .raised-of .ensures) (c .before .before .before .before .pre .1))
 
--- src/lib.rt:389:40
+-- src/lib.rt:396:40
 positive-of-requires-2 : tie.Need-positive-of-requires-2
 positive-of-requires-2 c κs = search needs
 
--- src/lib.rt:389:9
+-- src/lib.rt:396:9
 pattern-of-requires : tie.Need-pattern-of-requires
-pattern-of-requires c κs = (omega (arith, rw (e-back (c .before .before .before .before .before .args .bits) (c .before .before .before .before .raised-of .result) (c .before .before .before .before .raised-of .ensures) (c .before .before .before .before .before .pre), q-back (c .before .before .before .before .before .args .bits) (c .before .before .before .before .raised-of .result) (c .before .before .before .before .raised-of .ensures) (c .before .before .before .before .before .pre)) at (c .before .positive-of .ensures), up-small (c .before .before .before .before .before .args .bits) (c .before .before .before .before .raised-of .result) (c .before .before .before .before .raised-of .ensures) (c .before .before .before .before .before .pre)), omega (arith, rw (e-back (c .before .before .before .before .before .args .bits) (c .before .before .before .before .raised-of .result) (c .before .before .before .before .raised-of .ensures) (c .before .before .before .before .before .pre), q-back (c .before .before .before .before .before .args .bits) (c .before .before .before .before .raised-of .result) (c .before .before .before .before .raised-of .ensures) (c .before .before .before .before .before .pre), minus-back (c .before .before .before .before .before .args .bits) (c .before .before .before .before .raised-of .result) (c .before .before .before .before .raised-of .ensures) (c .before .before .before .before .before .pre)) at (c .positive-of2 .ensures), down-small (c .before .before .before .before .before .args .bits) (c .before .before .before .before .raised-of .result) (c .before .before .before .before .raised-of .ensures) (c .before .before .before .before .before .pre)))
+pattern-of-requires c κs = (omega (arith, rw (e-back (c .before .before .before .before .before .args .bits) (c .before .before .before .before .raised-of .result) (c .before .before .before .before .raised-of .ensures) (c .before .before .before .before .before .pre .1), q-back (c .before .before .before .before .before .args .bits) (c .before .before .before .before .raised-of .result) (c .before .before .before .before .raised-of .ensures) (c .before .before .before .before .before .pre .1)) at (c .before .positive-of .ensures), up-small (c .before .before .before .before .before .args .bits) (c .before .before .before .before .raised-of .result) (c .before .before .before .before .raised-of .ensures) (c .before .before .before .before .before .pre .1)), omega (arith, rw (e-back (c .before .before .before .before .before .args .bits) (c .before .before .before .before .raised-of .result) (c .before .before .before .before .raised-of .ensures) (c .before .before .before .before .before .pre .1), q-back (c .before .before .before .before .before .args .bits) (c .before .before .before .before .raised-of .result) (c .before .before .before .before .raised-of .ensures) (c .before .before .before .before .before .pre .1), minus-back (c .before .before .before .before .before .args .bits) (c .before .before .before .before .raised-of .result) (c .before .before .before .before .raised-of .ensures) (c .before .before .before .before .before .pre .1)) at (c .positive-of2 .ensures), down-small (c .before .before .before .before .before .args .bits) (c .before .before .before .before .raised-of .result) (c .before .before .before .before .raised-of .ensures) (c .before .before .before .before .before .pre .1)))
 
--- src/lib.rt:391:16
+-- src/lib.rt:398:16
 float-from-bits-result : tie.Need-float-from-bits-result
 unfolding nanBits
 float-from-bits-result c = tt
 
--- src/lib.rt:391:9
+-- src/lib.rt:398:9
 returns : tie.Need-returns
-returns c = let e = edge-is (c .before .before .before .before .before .before .before .args .bits) (c .before .before .before .before .before .before .raised-of .result) (c .before .before .before .before .before .before .raised-of .ensures) (c .before .before .before .before .before .before .before .pre) (c .before .before .before .positive-of .result) (c .before .before .positive-of2 .result) (c .before .pattern-of .result) (rw (e-back (c .before .before .before .before .before .before .before .args .bits) (c .before .before .before .before .before .before .raised-of .result) (c .before .before .before .before .before .before .raised-of .ensures) (c .before .before .before .before .before .before .before .pre), q-back (c .before .before .before .before .before .before .before .args .bits) (c .before .before .before .before .before .before .raised-of .result) (c .before .before .before .before .before .before .raised-of .ensures) (c .before .before .before .before .before .before .before .pre)) at (c .before .before .before .positive-of .ensures)) (rw (e-back (c .before .before .before .before .before .before .before .args .bits) (c .before .before .before .before .before .before .raised-of .result) (c .before .before .before .before .before .before .raised-of .ensures) (c .before .before .before .before .before .before .before .pre), q-back (c .before .before .before .before .before .before .before .args .bits) (c .before .before .before .before .before .before .raised-of .result) (c .before .before .before .before .before .before .raised-of .ensures) (c .before .before .before .before .before .before .before .pre), minus-back (c .before .before .before .before .before .before .before .args .bits) (c .before .before .before .before .before .before .raised-of .result) (c .before .before .before .before .before .before .raised-of .ensures) (c .before .before .before .before .before .before .before .pre)) at (c .before .before .positive-of2 .ensures)) (c .before .pattern-of .ensures) in ap (ofBits binary32) (omega arith)
+returns c = let e = edge-is (c .before .before .before .before .before .before .before .args .bits) (c .before .before .before .before .before .before .raised-of .result) (c .before .before .before .before .before .before .raised-of .ensures) (c .before .before .before .before .before .before .before .pre .1) (c .before .before .before .positive-of .result) (c .before .before .positive-of2 .result) (c .before .pattern-of .result) (rw (e-back (c .before .before .before .before .before .before .before .args .bits) (c .before .before .before .before .before .before .raised-of .result) (c .before .before .before .before .before .before .raised-of .ensures) (c .before .before .before .before .before .before .before .pre .1), q-back (c .before .before .before .before .before .before .before .args .bits) (c .before .before .before .before .before .before .raised-of .result) (c .before .before .before .before .before .before .raised-of .ensures) (c .before .before .before .before .before .before .before .pre .1)) at (c .before .before .before .positive-of .ensures)) (rw (e-back (c .before .before .before .before .before .before .before .args .bits) (c .before .before .before .before .before .before .raised-of .result) (c .before .before .before .before .before .before .raised-of .ensures) (c .before .before .before .before .before .before .before .pre .1), q-back (c .before .before .before .before .before .before .before .args .bits) (c .before .before .before .before .before .before .raised-of .result) (c .before .before .before .before .before .before .raised-of .ensures) (c .before .before .before .before .before .before .before .pre .1), minus-back (c .before .before .before .before .before .before .before .args .bits) (c .before .before .before .before .before .before .raised-of .result) (c .before .before .before .before .before .before .raised-of .ensures) (c .before .before .before .before .before .before .before .pre .1)) at (c .before .before .positive-of2 .ensures)) (c .before .pattern-of .ensures) in ap (ofBits binary32) (omega arith)
 
--- src/lib.rt:393:20
+-- src/lib.rt:400:20
 cast-result : tie.Need-cast-result
 cast-result c = search needs
 
--- src/lib.rt:393:5
+-- src/lib.rt:400:5
 float-from-bits-result-2 : tie.Need-float-from-bits-result-2
 float-from-bits-result-2 c = no-nan-pattern _ (omega arith)
 
--- src/lib.rt:383:1
+-- src/lib.rt:390:1
 returns-2 : tie.Need-returns-2
-returns-2 c = let e = edge-is (c .before .before .before .before .before .before .before .args .bits) (c .before .before .before .before .before .before .raised-of .result) (c .before .before .before .before .before .before .raised-of .ensures) (c .before .before .before .before .before .before .before .pre) (c .before .before .before .positive-of .result) (c .before .before .positive-of2 .result) (c .before .pattern-of .result) (rw (e-back (c .before .before .before .before .before .before .before .args .bits) (c .before .before .before .before .before .before .raised-of .result) (c .before .before .before .before .before .before .raised-of .ensures) (c .before .before .before .before .before .before .before .pre), q-back (c .before .before .before .before .before .before .before .args .bits) (c .before .before .before .before .before .before .raised-of .result) (c .before .before .before .before .before .before .raised-of .ensures) (c .before .before .before .before .before .before .before .pre)) at (c .before .before .before .positive-of .ensures)) (rw (e-back (c .before .before .before .before .before .before .before .args .bits) (c .before .before .before .before .before .before .raised-of .result) (c .before .before .before .before .before .before .raised-of .ensures) (c .before .before .before .before .before .before .before .pre), q-back (c .before .before .before .before .before .before .before .args .bits) (c .before .before .before .before .before .before .raised-of .result) (c .before .before .before .before .before .before .raised-of .ensures) (c .before .before .before .before .before .before .before .pre), minus-back (c .before .before .before .before .before .before .before .args .bits) (c .before .before .before .before .before .before .raised-of .result) (c .before .before .before .before .before .before .raised-of .ensures) (c .before .before .before .before .before .before .before .pre)) at (c .before .before .positive-of2 .ensures)) (c .before .pattern-of .ensures) in ap (ofBits binary32) (omega arith)
+returns-2 c = let e = edge-is (c .before .before .before .before .before .before .before .args .bits) (c .before .before .before .before .before .before .raised-of .result) (c .before .before .before .before .before .before .raised-of .ensures) (c .before .before .before .before .before .before .before .pre .1) (c .before .before .before .positive-of .result) (c .before .before .positive-of2 .result) (c .before .pattern-of .result) (rw (e-back (c .before .before .before .before .before .before .before .args .bits) (c .before .before .before .before .before .before .raised-of .result) (c .before .before .before .before .before .before .raised-of .ensures) (c .before .before .before .before .before .before .before .pre .1), q-back (c .before .before .before .before .before .before .before .args .bits) (c .before .before .before .before .before .before .raised-of .result) (c .before .before .before .before .before .before .raised-of .ensures) (c .before .before .before .before .before .before .before .pre .1)) at (c .before .before .before .positive-of .ensures)) (rw (e-back (c .before .before .before .before .before .before .before .args .bits) (c .before .before .before .before .before .before .raised-of .result) (c .before .before .before .before .before .before .raised-of .ensures) (c .before .before .before .before .before .before .before .pre .1), q-back (c .before .before .before .before .before .before .before .args .bits) (c .before .before .before .before .before .before .raised-of .result) (c .before .before .before .before .before .before .raised-of .ensures) (c .before .before .before .before .before .before .before .pre .1), minus-back (c .before .before .before .before .before .before .before .args .bits) (c .before .before .before .before .before .before .raised-of .result) (c .before .before .before .before .before .before .raised-of .ensures) (c .before .before .before .before .before .before .before .pre .1)) at (c .before .before .positive-of2 .ensures)) (c .before .pattern-of .ensures) in ap (ofBits binary32) (omega arith)
 
 pub edge-spec : {M : Type 1} → statement M
 edge-spec =

@@ -1,4 +1,3 @@
-use Rattle.exponent.specs.Exp.{expBits}
 use lib.Ieee.{ofBits}
 use Rattle.single.proofs.Nan.{no-nan-pattern}
 use Rattle.exponent.proofs.Rounding.{e-back, q-fits, q-back, q-nonNeg, q-lt, r-lt, exp-is}
@@ -15,33 +14,33 @@ use Rattle.exponent.proofs.ordinary.Lts as lts
 use Rattle.exponent.proofs.pattern_of.Reads as pattern-of-reads
 use Rattle.exponent.proofs.raised_of.Reads as raised-of-reads
 
--- src/lib.rt:367:9
+-- src/lib.rt:374:9
 raised-of-requires : tie.Need-raised-of-requires
 raised-of-requires c κs = search needs
 
--- src/lib.rt:368:13
+-- src/lib.rt:375:13
 add-q : tie.Need-add-q
 add-q c = rw (e-back (c .before .before .before .args .bits) (c .before .before .raised-of .result) (c .before .before .raised-of .ensures) (omega arith)) (q-fits (c .before .before .before .args .bits) (c .before .before .raised-of .result) (c .before .before .raised-of .ensures) (omega arith))
 
--- src/lib.rt:369:31
+-- src/lib.rt:376:31
 cast-pattern-of : tie.Need-cast-pattern-of
-cast-pattern-of c = rw (e-back (c .before .before .before .args .bits) (c .before .before .raised-of .result) (c .before .before .raised-of .ensures) (omega arith), q-back (c .before .before .before .args .bits) (c .before .before .raised-of .result) (c .before .before .raised-of .ensures) (omega arith)) (q-nonNeg (c .before .before .before .args .bits) (c .before .before .raised-of .result) (c .before .before .raised-of .ensures) (c .before .before .before .pre), record { fits = omega (arith, q-lt (c .before .before .before .args .bits) (c .before .before .raised-of .result) (c .before .before .raised-of .ensures) (c .before .before .before .pre)) })
+cast-pattern-of c = rw (e-back (c .before .before .before .args .bits) (c .before .before .raised-of .result) (c .before .before .raised-of .ensures) (omega arith), q-back (c .before .before .before .args .bits) (c .before .before .raised-of .result) (c .before .before .raised-of .ensures) (omega arith)) (q-nonNeg (c .before .before .before .args .bits) (c .before .before .raised-of .result) (c .before .before .raised-of .ensures) (c .before .before .before .pre .1), record { fits = omega (arith, q-lt (c .before .before .before .args .bits) (c .before .before .raised-of .result) (c .before .before .raised-of .ensures) (c .before .before .before .pre .1)) })
 
--- src/lib.rt:369:20
+-- src/lib.rt:376:20
 pattern-of-requires : tie.Need-pattern-of-requires
-pattern-of-requires c κs = rw (e-back (c .before .before .before .args .bits) (c .before .before .raised-of .result) (c .before .before .raised-of .ensures) (omega arith), q-back (c .before .before .before .args .bits) (c .before .before .raised-of .result) (c .before .before .raised-of .ensures) (omega arith)) (omega (arith, q-lt (c .before .before .before .args .bits) (c .before .before .raised-of .result) (c .before .before .raised-of .ensures) (c .before .before .before .pre)), search needs)
+pattern-of-requires c κs = rw (e-back (c .before .before .before .args .bits) (c .before .before .raised-of .result) (c .before .before .raised-of .ensures) (omega arith), q-back (c .before .before .before .args .bits) (c .before .before .raised-of .result) (c .before .before .raised-of .ensures) (omega arith)) (omega (arith, q-lt (c .before .before .before .args .bits) (c .before .before .raised-of .result) (c .before .before .raised-of .ensures) (c .before .before .before .pre .1)), search needs)
 
--- src/lib.rt:369:20
+-- src/lib.rt:376:20
 cast-result : tie.Need-cast-result
-cast-result c = record { fits = omega (arith, rw (e-back (c .before .before .before .before .args .bits) (c .before .before .before .raised-of .result) (c .before .before .before .raised-of .ensures) (omega arith), q-back (c .before .before .before .before .args .bits) (c .before .before .before .raised-of .result) (c .before .before .before .raised-of .ensures) (omega arith)) at (c .pattern-of .ensures), r-lt (c .before .before .before .before .args .bits) (c .before .before .before .raised-of .result) (c .before .before .before .raised-of .ensures) (c .before .before .before .before .pre)) }
+cast-result c = record { fits = omega (arith, rw (e-back (c .before .before .before .before .args .bits) (c .before .before .before .raised-of .result) (c .before .before .before .raised-of .ensures) (omega arith), q-back (c .before .before .before .before .args .bits) (c .before .before .before .raised-of .result) (c .before .before .before .raised-of .ensures) (omega arith)) at (c .pattern-of .ensures), r-lt (c .before .before .before .before .args .bits) (c .before .before .before .raised-of .result) (c .before .before .before .raised-of .ensures) (c .before .before .before .before .pre .1)) }
 
--- src/lib.rt:369:5
+-- src/lib.rt:376:5
 float-from-bits-result : tie.Need-float-from-bits-result
-float-from-bits-result c = no-nan-pattern _ (omega (arith, rw (e-back (c .before .before .before .before .args .bits) (c .before .before .before .raised-of .result) (c .before .before .before .raised-of .ensures) (omega arith), q-back (c .before .before .before .before .args .bits) (c .before .before .before .raised-of .result) (c .before .before .before .raised-of .ensures) (omega arith)) at (c .pattern-of .ensures), r-lt (c .before .before .before .before .args .bits) (c .before .before .before .raised-of .result) (c .before .before .before .raised-of .ensures) (c .before .before .before .before .pre)))
+float-from-bits-result c = no-nan-pattern _ (omega (arith, rw (e-back (c .before .before .before .before .args .bits) (c .before .before .before .raised-of .result) (c .before .before .before .raised-of .ensures) (omega arith), q-back (c .before .before .before .before .args .bits) (c .before .before .before .raised-of .result) (c .before .before .before .raised-of .ensures) (omega arith)) at (c .pattern-of .ensures), r-lt (c .before .before .before .before .args .bits) (c .before .before .before .raised-of .result) (c .before .before .before .raised-of .ensures) (c .before .before .before .before .pre .1)))
 
--- src/lib.rt:363:1
+-- src/lib.rt:370:1
 returns : tie.Need-returns
-returns c = ap (ofBits binary32) (rw (e-back (c .before .before .before .before .args .bits) (c .before .before .before .raised-of .result) (c .before .before .before .raised-of .ensures) (omega arith), q-back (c .before .before .before .before .args .bits) (c .before .before .before .raised-of .result) (c .before .before .before .raised-of .ensures) (omega arith)) at (c .pattern-of .ensures) ∙ sym (exp-is (c .before .before .before .before .args .bits) (c .before .before .before .raised-of .result) (c .before .before .before .raised-of .ensures) (c .before .before .before .before .pre)))
+returns c = ap (ofBits binary32) (rw (e-back (c .before .before .before .before .args .bits) (c .before .before .before .raised-of .result) (c .before .before .before .raised-of .ensures) (omega arith), q-back (c .before .before .before .before .args .bits) (c .before .before .before .raised-of .result) (c .before .before .before .raised-of .ensures) (omega arith)) at (c .pattern-of .ensures) ∙ sym (exp-is (c .before .before .before .before .args .bits) (c .before .before .before .raised-of .result) (c .before .before .before .raised-of .ensures) (c .before .before .before .before .pre .1)))
 
 pub ordinary-spec : {M : Type 1} → statement M
 ordinary-spec =
