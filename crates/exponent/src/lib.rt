@@ -413,10 +413,10 @@ fn seldom(t: &[u32; 256], bits: u32) -> f32
         if 0x42b2_0000 <= a {
             return f32::from_bits(0x7f80_0000);
         }
-        return edge(t, bits);
-    }
-    if 0x42d0_0000 <= a {
-        return f32::from_bits(0);
+    } else {
+        if 0x42d0_0000 <= a {
+            return f32::from_bits(0);
+        }
     }
     edge(t, bits)
 }

@@ -26,7 +26,7 @@ split-requires c κs = rw (scaled-back (c .before .args .bits) (c .before .pre .
 
 -- src/lib.rt:354:9
 split-requires-2 : tie.Need-split-requires-2
-split-requires-2 c κs = 
+split-requires-2 c κs =
     let e1 : c .before .split .result ≡ parts (scaled (c .before .before .before .args .bits)) 16777216 = c .before .split .ensures .is ∙ ap (λ z. parts z 16777216) (scaled-back (c .before .before .before .args .bits) (c .before .before .before .pre .1) (c .before .before .scaled-of .result) (c .before .before .scaled-of .ensures)) in
     let s1 = whole-small (c .before .before .before .args .bits) (c .before .before .before .pre .1) (c .before .split .result) e1 in
     rw (back (c .before .split .result .quotient) (omega arith)) (s1, search needs)
@@ -37,7 +37,7 @@ power-of-requires c κs = search needs
 
 -- src/lib.rt:349:1
 returns : tie.Need-returns
-returns c = 
+returns c =
     let e1 : c .before .before .before .before .split .result ≡ parts (scaled (c .before .before .before .before .before .before .args .bits)) 16777216 = c .before .before .before .before .split .ensures .is ∙ ap (λ z. parts z 16777216) (scaled-back (c .before .before .before .before .before .before .args .bits) (c .before .before .before .before .before .before .pre .1) (c .before .before .before .before .before .scaled-of .result) (c .before .before .before .before .before .scaled-of .ensures)) in
     let s1 = whole-small (c .before .before .before .before .before .before .args .bits) (c .before .before .before .before .before .before .pre .1) (c .before .before .before .before .split .result) e1 in
     let e2 : c .before .before .split2 .result ≡ parts (c .before .before .before .before .split .result .quotient) 256 = c .before .before .split2 .ensures .is ∙ ap (λ z. parts z 256) (back (c .before .before .before .before .split .result .quotient) (omega arith)) in

@@ -1,3 +1,4 @@
+use mathlib.Core.Logic.{⊎-elim}
 use lib.Dec.{lit<}
 use Rattle.single.proofs.Nan.{nan-pattern}
 use lib.Ieee.{ofBits, nanBits}
@@ -32,30 +33,22 @@ float-from-bits-result c = tt
 returns-2 : tie.Need-returns-2
 returns-2 c = ap (ofBits binary32) (sym (at-high (c .before .before .before .args .bits) (c .before .before .if1 .left) (c .before .if2 .taken) (c .if3 .taken)))
 
--- src/lib.rt:416:9
-edge-requires : tie.Need-edge-requires
-edge-requires c κs = search needs
-
--- src/lib.rt:416:9
-returns-3 : tie.Need-returns-3
-returns-3 c = c .edge .ensures ∙ ap (ofBits binary32) (sym (at-positive (c .before .before .before .before .args .bits) (c .before .before .if2 .taken) (c .before .if3 .left)))
-
--- src/lib.rt:419:16
+-- src/lib.rt:418:20
 float-from-bits-result-2 : tie.Need-float-from-bits-result-2
 unfolding nanBits
 float-from-bits-result-2 c = tt
 
--- src/lib.rt:419:9
-returns-4 : tie.Need-returns-4
-returns-4 c = ap (ofBits binary32) (sym (at-low (c .before .before .before .args .bits) (c .before .before .if1 .left) (c .before .if2 .left) (c .if4 .taken)))
+-- src/lib.rt:418:13
+returns-3 : tie.Need-returns-3
+returns-3 c = ap (ofBits binary32) (sym (at-low (c .before .before .before .args .bits) (c .before .before .if1 .left) (c .before .if2 .left) (c .if4 .taken)))
 
 -- src/lib.rt:421:5
-edge-requires-2 : tie.Need-edge-requires-2
-edge-requires-2 c κs = search needs
+edge-requires : tie.Need-edge-requires
+edge-requires c κs = (c .before .before .pre, ⊎-elim (λ w. omega arith) (λ w. omega arith) (c .if2 .came))
 
 -- src/lib.rt:404:1
-returns-5 : tie.Need-returns-5
-returns-5 c = c .edge2 .ensures ∙ ap (ofBits binary32) (sym (at-negative (c .before .before .before .before .args .bits) (c .before .before .if2 .left) (c .before .if4 .left)))
+returns-4 : tie.Need-returns-4
+returns-4 c = c .edge .ensures ∙ ap (ofBits binary32) (sym (⊎-elim (λ w. at-positive (c .before .before .before .args .bits) (w .0 .taken) (w .1 .left)) (λ w. at-negative (c .before .before .before .args .bits) (w .0 .left) (w .1 .left)) (c .before .if2 .came)))
 
 pub seldom-spec : {M : Type 1} → statement M
 seldom-spec =
@@ -65,9 +58,7 @@ seldom-spec =
     returns
     float-from-bits-result
     returns-2
-    edge-requires
-    returns-3
     float-from-bits-result-2
-    returns-4
-    edge-requires-2
-    returns-5)
+    returns-3
+    edge-requires
+    returns-4)
