@@ -73,7 +73,7 @@ unfolding nearest
 nearest-le y s h l = omega (arith, shift-le y 38 (s - 1) (omega arith))
 
 -- ---- what the code has of a pattern: p, the exponent and the power
-module _ (b : ℕ) (p : Power) (is : p ≡ raised b) where
+module _ (b : ℕ) {p : Power} (is : p ≡ raised b) where
   size-of-p : p .size < 2 ^ 63 + 2 ^ 56
   size-of-p = rw is (power-small b)
 

@@ -21,7 +21,11 @@ raised-of-requires c κs = search needs
 
 -- src/lib.rt:395:13
 add-q : tie.Need-add-q
-add-q c = rw (e-back (c .before .before .before .args .bits) (c .before .before .raised-of .result) (c .before .before .raised-of .ensures) (c .before .before .before .pre .1)) (q-fits (c .before .before .before .args .bits) (c .before .before .raised-of .result) (c .before .before .raised-of .ensures) (c .before .before .before .pre .1))
+add-q c = 
+    let b = c .before .before .before .args .bits in
+    let is = c .before .before .raised-of .ensures in
+    let h = c .before .before .before .pre .1 in
+    rw (e-back b is h) (q-fits b is h)
 
 -- src/lib.rt:396:24
 positive-of-requires : tie.Need-positive-of-requires
@@ -29,7 +33,11 @@ positive-of-requires c κs = search needs
 
 -- src/lib.rt:396:52
 sub-positive-of : tie.Need-sub-positive-of
-sub-positive-of c = rw (e-back (c .before .before .before .before .args .bits) (c .before .before .before .raised-of .result) (c .before .before .before .raised-of .ensures) (c .before .before .before .before .pre .1), q-back (c .before .before .before .before .args .bits) (c .before .before .before .raised-of .result) (c .before .before .before .raised-of .ensures) (c .before .before .before .before .pre .1)) (minus-fits (c .before .before .before .before .args .bits) (c .before .before .before .raised-of .result) (c .before .before .before .raised-of .ensures) (c .before .before .before .before .pre .1))
+sub-positive-of c = 
+    let b = c .before .before .before .before .args .bits in
+    let is = c .before .before .before .raised-of .ensures in
+    let h = c .before .before .before .before .pre .1 in
+    rw (e-back b is h, q-back b is h) (minus-fits b is h)
 
 -- src/lib.rt:396:40
 positive-of-requires-2 : tie.Need-positive-of-requires-2
@@ -37,7 +45,13 @@ positive-of-requires-2 c κs = search needs
 
 -- src/lib.rt:396:9
 pattern-of-requires : tie.Need-pattern-of-requires
-pattern-of-requires c κs = (omega (arith, rw (e-back (c .before .before .before .before .before .args .bits) (c .before .before .before .before .raised-of .result) (c .before .before .before .before .raised-of .ensures) (c .before .before .before .before .before .pre .1), q-back (c .before .before .before .before .before .args .bits) (c .before .before .before .before .raised-of .result) (c .before .before .before .before .raised-of .ensures) (c .before .before .before .before .before .pre .1)) at (c .before .positive-of .ensures), up-small (c .before .before .before .before .before .args .bits) (c .before .before .before .before .raised-of .result) (c .before .before .before .before .raised-of .ensures) (c .before .before .before .before .before .pre .1)), omega (arith, rw (e-back (c .before .before .before .before .before .args .bits) (c .before .before .before .before .raised-of .result) (c .before .before .before .before .raised-of .ensures) (c .before .before .before .before .before .pre .1), q-back (c .before .before .before .before .before .args .bits) (c .before .before .before .before .raised-of .result) (c .before .before .before .before .raised-of .ensures) (c .before .before .before .before .before .pre .1), minus-back (c .before .before .before .before .before .args .bits) (c .before .before .before .before .raised-of .result) (c .before .before .before .before .raised-of .ensures) (c .before .before .before .before .before .pre .1)) at (c .positive-of2 .ensures), down-small (c .before .before .before .before .before .args .bits) (c .before .before .before .before .raised-of .result) (c .before .before .before .before .raised-of .ensures) (c .before .before .before .before .before .pre .1)))
+pattern-of-requires c κs = 
+    let b = c .before .before .before .before .before .args .bits in
+    let is = c .before .before .before .before .raised-of .ensures in
+    let h = c .before .before .before .before .before .pre .1 in
+    let up = rw (e-back b is h, q-back b is h) at (c .before .positive-of .ensures) in
+    let down = rw (e-back b is h, q-back b is h, minus-back b is h) at (c .positive-of2 .ensures) in
+    (omega (arith, up-small b is h), omega (arith, down-small b is h))
 
 -- src/lib.rt:398:16
 float-from-bits-result : tie.Need-float-from-bits-result
@@ -46,7 +60,14 @@ float-from-bits-result c = tt
 
 -- src/lib.rt:398:9
 returns : tie.Need-returns
-returns c = let e = edge-is (c .before .before .before .before .before .before .before .args .bits) (c .before .before .before .before .before .before .raised-of .result) (c .before .before .before .before .before .before .raised-of .ensures) (c .before .before .before .before .before .before .before .pre .1) (c .before .before .before .positive-of .result) (c .before .before .positive-of2 .result) (c .before .pattern-of .result) (rw (e-back (c .before .before .before .before .before .before .before .args .bits) (c .before .before .before .before .before .before .raised-of .result) (c .before .before .before .before .before .before .raised-of .ensures) (c .before .before .before .before .before .before .before .pre .1), q-back (c .before .before .before .before .before .before .before .args .bits) (c .before .before .before .before .before .before .raised-of .result) (c .before .before .before .before .before .before .raised-of .ensures) (c .before .before .before .before .before .before .before .pre .1)) at (c .before .before .before .positive-of .ensures)) (rw (e-back (c .before .before .before .before .before .before .before .args .bits) (c .before .before .before .before .before .before .raised-of .result) (c .before .before .before .before .before .before .raised-of .ensures) (c .before .before .before .before .before .before .before .pre .1), q-back (c .before .before .before .before .before .before .before .args .bits) (c .before .before .before .before .before .before .raised-of .result) (c .before .before .before .before .before .before .raised-of .ensures) (c .before .before .before .before .before .before .before .pre .1), minus-back (c .before .before .before .before .before .before .before .args .bits) (c .before .before .before .before .before .before .raised-of .result) (c .before .before .before .before .before .before .raised-of .ensures) (c .before .before .before .before .before .before .before .pre .1)) at (c .before .before .positive-of2 .ensures)) (c .before .pattern-of .ensures) in ap (ofBits binary32) (omega arith)
+returns c = 
+    let b = c .before .before .before .before .before .before .before .args .bits in
+    let is = c .before .before .before .before .before .before .raised-of .ensures in
+    let h = c .before .before .before .before .before .before .before .pre .1 in
+    let up = rw (e-back b is h, q-back b is h) at (c .before .before .before .positive-of .ensures) in
+    let down = rw (e-back b is h, q-back b is h, minus-back b is h) at (c .before .before .positive-of2 .ensures) in
+    let e = edge-is b is h (c .before .before .before .positive-of .result) (c .before .before .positive-of2 .result) (c .before .pattern-of .result) up down (c .before .pattern-of .ensures) in
+    ap (ofBits binary32) (omega arith)
 
 -- src/lib.rt:400:20
 cast-result : tie.Need-cast-result
@@ -58,7 +79,14 @@ float-from-bits-result-2 c = no-nan-pattern _ (omega arith)
 
 -- src/lib.rt:390:1
 returns-2 : tie.Need-returns-2
-returns-2 c = let e = edge-is (c .before .before .before .before .before .before .before .args .bits) (c .before .before .before .before .before .before .raised-of .result) (c .before .before .before .before .before .before .raised-of .ensures) (c .before .before .before .before .before .before .before .pre .1) (c .before .before .before .positive-of .result) (c .before .before .positive-of2 .result) (c .before .pattern-of .result) (rw (e-back (c .before .before .before .before .before .before .before .args .bits) (c .before .before .before .before .before .before .raised-of .result) (c .before .before .before .before .before .before .raised-of .ensures) (c .before .before .before .before .before .before .before .pre .1), q-back (c .before .before .before .before .before .before .before .args .bits) (c .before .before .before .before .before .before .raised-of .result) (c .before .before .before .before .before .before .raised-of .ensures) (c .before .before .before .before .before .before .before .pre .1)) at (c .before .before .before .positive-of .ensures)) (rw (e-back (c .before .before .before .before .before .before .before .args .bits) (c .before .before .before .before .before .before .raised-of .result) (c .before .before .before .before .before .before .raised-of .ensures) (c .before .before .before .before .before .before .before .pre .1), q-back (c .before .before .before .before .before .before .before .args .bits) (c .before .before .before .before .before .before .raised-of .result) (c .before .before .before .before .before .before .raised-of .ensures) (c .before .before .before .before .before .before .before .pre .1), minus-back (c .before .before .before .before .before .before .before .args .bits) (c .before .before .before .before .before .before .raised-of .result) (c .before .before .before .before .before .before .raised-of .ensures) (c .before .before .before .before .before .before .before .pre .1)) at (c .before .before .positive-of2 .ensures)) (c .before .pattern-of .ensures) in ap (ofBits binary32) (omega arith)
+returns-2 c = 
+    let b = c .before .before .before .before .before .before .before .args .bits in
+    let is = c .before .before .before .before .before .before .raised-of .ensures in
+    let h = c .before .before .before .before .before .before .before .pre .1 in
+    let up = rw (e-back b is h, q-back b is h) at (c .before .before .before .positive-of .ensures) in
+    let down = rw (e-back b is h, q-back b is h, minus-back b is h) at (c .before .before .positive-of2 .ensures) in
+    let e = edge-is b is h (c .before .before .before .positive-of .result) (c .before .before .positive-of2 .result) (c .before .pattern-of .result) up down (c .before .pattern-of .ensures) in
+    ap (ofBits binary32) (omega arith)
 
 pub edge-spec : {M : Type 1} → statement M
 edge-spec =

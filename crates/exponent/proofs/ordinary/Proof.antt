@@ -20,27 +20,53 @@ raised-of-requires c κs = search needs
 
 -- src/lib.rt:375:13
 add-q : tie.Need-add-q
-add-q c = rw (e-back (c .before .before .before .args .bits) (c .before .before .raised-of .result) (c .before .before .raised-of .ensures) (omega arith)) (q-fits (c .before .before .before .args .bits) (c .before .before .raised-of .result) (c .before .before .raised-of .ensures) (omega arith))
+add-q c = 
+    let b = c .before .before .before .args .bits in
+    let is = c .before .before .raised-of .ensures in
+    let h = c .before .before .before .pre .1 in
+    rw (e-back b is (omega arith)) (q-fits b is (omega arith))
 
 -- src/lib.rt:376:31
 cast-pattern-of : tie.Need-cast-pattern-of
-cast-pattern-of c = rw (e-back (c .before .before .before .args .bits) (c .before .before .raised-of .result) (c .before .before .raised-of .ensures) (omega arith), q-back (c .before .before .before .args .bits) (c .before .before .raised-of .result) (c .before .before .raised-of .ensures) (omega arith)) (q-nonNeg (c .before .before .before .args .bits) (c .before .before .raised-of .result) (c .before .before .raised-of .ensures) (c .before .before .before .pre .1), record { fits = omega (arith, q-lt (c .before .before .before .args .bits) (c .before .before .raised-of .result) (c .before .before .raised-of .ensures) (c .before .before .before .pre .1)) })
+cast-pattern-of c = 
+    let b = c .before .before .before .args .bits in
+    let is = c .before .before .raised-of .ensures in
+    let h = c .before .before .before .pre .1 in
+    rw (e-back b is (omega arith), q-back b is (omega arith)) (q-nonNeg b is h, record { fits = omega (arith, q-lt b is h) })
 
 -- src/lib.rt:376:20
 pattern-of-requires : tie.Need-pattern-of-requires
-pattern-of-requires c κs = rw (e-back (c .before .before .before .args .bits) (c .before .before .raised-of .result) (c .before .before .raised-of .ensures) (omega arith), q-back (c .before .before .before .args .bits) (c .before .before .raised-of .result) (c .before .before .raised-of .ensures) (omega arith)) (omega (arith, q-lt (c .before .before .before .args .bits) (c .before .before .raised-of .result) (c .before .before .raised-of .ensures) (c .before .before .before .pre .1)), search needs)
+pattern-of-requires c κs = 
+    let b = c .before .before .before .args .bits in
+    let is = c .before .before .raised-of .ensures in
+    let h = c .before .before .before .pre .1 in
+    rw (e-back b is (omega arith), q-back b is (omega arith)) (omega (arith, q-lt b is h), search needs)
 
 -- src/lib.rt:376:20
 cast-result : tie.Need-cast-result
-cast-result c = record { fits = omega (arith, rw (e-back (c .before .before .before .before .args .bits) (c .before .before .before .raised-of .result) (c .before .before .before .raised-of .ensures) (omega arith), q-back (c .before .before .before .before .args .bits) (c .before .before .before .raised-of .result) (c .before .before .before .raised-of .ensures) (omega arith)) at (c .pattern-of .ensures), r-lt (c .before .before .before .before .args .bits) (c .before .before .before .raised-of .result) (c .before .before .before .raised-of .ensures) (c .before .before .before .before .pre .1)) }
+cast-result c = 
+    let b = c .before .before .before .before .args .bits in
+    let is = c .before .before .before .raised-of .ensures in
+    let h = c .before .before .before .before .pre .1 in
+    let e = rw (e-back b is (omega arith), q-back b is (omega arith)) at (c .pattern-of .ensures) in
+    record { fits = omega (arith, r-lt b is h) }
 
 -- src/lib.rt:376:5
 float-from-bits-result : tie.Need-float-from-bits-result
-float-from-bits-result c = no-nan-pattern _ (omega (arith, rw (e-back (c .before .before .before .before .args .bits) (c .before .before .before .raised-of .result) (c .before .before .before .raised-of .ensures) (omega arith), q-back (c .before .before .before .before .args .bits) (c .before .before .before .raised-of .result) (c .before .before .before .raised-of .ensures) (omega arith)) at (c .pattern-of .ensures), r-lt (c .before .before .before .before .args .bits) (c .before .before .before .raised-of .result) (c .before .before .before .raised-of .ensures) (c .before .before .before .before .pre .1)))
+float-from-bits-result c = 
+    let b = c .before .before .before .before .args .bits in
+    let is = c .before .before .before .raised-of .ensures in
+    let h = c .before .before .before .before .pre .1 in
+    let e = rw (e-back b is (omega arith), q-back b is (omega arith)) at (c .pattern-of .ensures) in
+    no-nan-pattern _ (omega (arith, r-lt b is h))
 
 -- src/lib.rt:370:1
 returns : tie.Need-returns
-returns c = ap (ofBits binary32) (rw (e-back (c .before .before .before .before .args .bits) (c .before .before .before .raised-of .result) (c .before .before .before .raised-of .ensures) (omega arith), q-back (c .before .before .before .before .args .bits) (c .before .before .before .raised-of .result) (c .before .before .before .raised-of .ensures) (omega arith)) at (c .pattern-of .ensures) ∙ sym (exp-is (c .before .before .before .before .args .bits) (c .before .before .before .raised-of .result) (c .before .before .before .raised-of .ensures) (c .before .before .before .before .pre .1)))
+returns c = 
+    let b = c .before .before .before .before .args .bits in
+    let is = c .before .before .before .raised-of .ensures in
+    let h = c .before .before .before .before .pre .1 in
+    ap (ofBits binary32) (rw (e-back b is (omega arith), q-back b is (omega arith)) at (c .pattern-of .ensures) ∙ sym (exp-is b is h))
 
 pub ordinary-spec : {M : Type 1} → statement M
 ordinary-spec =

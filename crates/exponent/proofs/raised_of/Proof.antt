@@ -22,14 +22,22 @@ scaled-of-requires c κs = search needs
 
 -- src/lib.rt:353:9
 split-requires : tie.Need-split-requires
-split-requires c κs = rw (scaled-back (c .before .args .bits) (c .before .pre .1) (c .scaled-of .result) (c .scaled-of .ensures)) (scaled-small (c .before .args .bits) (c .before .pre .1), search needs)
+split-requires c κs = 
+    let b = c .before .args .bits in
+    let h = c .before .pre .1 in
+    rw (scaled-back b h (c .scaled-of .result) (c .scaled-of .ensures)) (scaled-small b h, search needs)
 
 -- src/lib.rt:354:9
 split-requires-2 : tie.Need-split-requires-2
-split-requires-2 c κs =
-    let e1 : c .before .split .result ≡ parts (scaled (c .before .before .before .args .bits)) 16777216 = c .before .split .ensures .is ∙ ap (λ z. parts z 16777216) (scaled-back (c .before .before .before .args .bits) (c .before .before .before .pre .1) (c .before .before .scaled-of .result) (c .before .before .scaled-of .ensures)) in
-    let s1 = whole-small (c .before .before .before .args .bits) (c .before .before .before .pre .1) (c .before .split .result) e1 in
-    rw (back (c .before .split .result .quotient) (omega arith)) (s1, search needs)
+split-requires-2 c κs = 
+    let b = c .before .before .before .args .bits in
+    let h = c .before .before .before .pre .1 in
+    let k = c .before .split .result in
+    let e1 : k ≡ parts (scaled b) 16777216 =
+        c .before .split .ensures .is ∙ ap (λ z. parts z 16777216) (scaled-back b h (c .before .before .scaled-of .result) (c .before .before .scaled-of .ensures))
+    in
+    let s1 = whole-small b h k e1 in
+    rw (back (k .quotient) (omega arith)) (s1, search needs)
 
 -- src/lib.rt:357:15
 power-of-requires : tie.Need-power-of-requires
@@ -37,12 +45,18 @@ power-of-requires c κs = search needs
 
 -- src/lib.rt:349:1
 returns : tie.Need-returns
-returns c =
-    let e1 : c .before .before .before .before .split .result ≡ parts (scaled (c .before .before .before .before .before .before .args .bits)) 16777216 = c .before .before .before .before .split .ensures .is ∙ ap (λ z. parts z 16777216) (scaled-back (c .before .before .before .before .before .before .args .bits) (c .before .before .before .before .before .before .pre .1) (c .before .before .before .before .before .scaled-of .result) (c .before .before .before .before .before .scaled-of .ensures)) in
-    let s1 = whole-small (c .before .before .before .before .before .before .args .bits) (c .before .before .before .before .before .before .pre .1) (c .before .before .before .before .split .result) e1 in
-    let e2 : c .before .before .split2 .result ≡ parts (c .before .before .before .before .split .result .quotient) 256 = c .before .before .split2 .ensures .is ∙ ap (λ z. parts z 256) (back (c .before .before .before .before .split .result .quotient) (omega arith)) in
-    let s2 = exponent-small (c .before .before .before .before .before .before .args .bits) (c .before .before .before .before .before .before .pre .1) (c .before .before .before .before .split .result) (c .before .before .split2 .result) e1 e2 in
-    rw (back (c .before .before .split2 .result .quotient) (omega arith)) (raised-is (c .before .before .before .before .before .before .args .bits) (c .before .before .before .before .split .result) (c .before .before .split2 .result) (c .before .power-of .result) e1 e2 (c .before .power-of .ensures))
+returns c = 
+    let b = c .before .before .before .before .before .before .args .bits in
+    let h = c .before .before .before .before .before .before .pre .1 in
+    let k = c .before .before .before .before .split .result in
+    let e1 : k ≡ parts (scaled b) 16777216 =
+        c .before .before .before .before .split .ensures .is ∙ ap (λ z. parts z 16777216) (scaled-back b h (c .before .before .before .before .before .scaled-of .result) (c .before .before .before .before .before .scaled-of .ensures))
+    in
+    let s1 = whole-small b h k e1 in
+    let j = c .before .before .split2 .result in
+    let e2 : j ≡ parts (k .quotient) 256 = c .before .before .split2 .ensures .is ∙ ap (λ z. parts z 256) (back (k .quotient) (omega arith)) in
+    let s2 = exponent-small b h k j e1 e2 in
+    rw (back (j .quotient) (omega arith)) (raised-is b k j (c .before .power-of .result) e1 e2 (c .before .power-of .ensures))
 
 pub raised-of-spec : {M : Type 1} → statement M
 raised-of-spec =

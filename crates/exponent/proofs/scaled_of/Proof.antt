@@ -34,16 +34,32 @@ size-of-requires c κs = search needs
 
 -- src/lib.rt:338:27
 cast-result : tie.Need-cast-result
-cast-result c = record { sfits = omega (arith, c .size-of .ensures, size-between (c .before .args .bits) (c .before .pre)) }
+cast-result c = 
+    let b = c .before .args .bits in
+    let u = c .size-of .result in
+    let e = c .size-of .ensures in
+    let s = size-between b (c .before .pre) in
+    record { sfits = omega arith }
 
 -- src/lib.rt:338:5
 mul-result-2 : tie.Need-mul-result-2
-mul-result-2 c = rw (signed-is (c .before .args .bits) (c .size-of .result) (c .before .fits .bits .fits) (omega (arith, c .size-of .ensures, size-between (c .before .args .bits) (c .before .pre)))) (record { sfits = omega (arith, c .size-of .ensures, size-between (c .before .args .bits) (c .before .pre), mag-signed (ltb (c .before .args .bits) 2147483648) (c .size-of .result)) })
+mul-result-2 c = 
+    let b = c .before .args .bits in
+    let u = c .size-of .result in
+    let e = c .size-of .ensures in
+    let s = size-between b (c .before .pre) in
+    rw (signed-is b u (c .before .fits .bits .fits) (omega arith)) (record { sfits = omega (arith, mag-signed (ltb b 2147483648) u) })
 
 -- src/lib.rt:333:1
 returns : tie.Need-returns
 unfolding scaled signed
-returns c = rw (signed-is (c .before .args .bits) (c .size-of .result) (c .before .fits .bits .fits) (omega (arith, c .size-of .ensures, size-between (c .before .args .bits) (c .before .pre)))) (back (signed (ltb (c .before .args .bits) 2147483648) (c .size-of .result)) (omega (arith, c .size-of .ensures, size-between (c .before .args .bits) (c .before .pre), mag-signed (ltb (c .before .args .bits) 2147483648) (c .size-of .result))) ∙ rw (c .size-of .ensures))
+returns c = 
+    let b = c .before .args .bits in
+    let u = c .size-of .result in
+    let e = c .size-of .ensures in
+    let s = size-between b (c .before .pre) in
+    rw (signed-is b u (c .before .fits .bits .fits) (omega arith))
+    (back (signed (ltb b 2147483648) u) (omega (arith, mag-signed (ltb b 2147483648) u)) ∙ rw e)
 
 pub scaled-of-spec : {M : Type 1} → statement M
 scaled-of-spec =
