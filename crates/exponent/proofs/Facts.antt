@@ -1,20 +1,19 @@
 -- What document 01 asks of E and its table ('Tanh and exp'), each a theorem about every float of the format. Assumes nothing.
-use mathlib.Core.Path.{_≡_, refl, sym, ap, _∙_, subst}
+use mathlib.Core.Path.{_≡_, refl, sym, ap, subst}
 use mathlib.Core.Logic.{⊎-elim}
 use mathlib.Core.Bool.{Bool, true, false, not}
 use Prim.Native.Nat.{ℕ, _+_, _-_, _*_, _%_, _^_, _≤_, _<_}
-use native.Mathlib.Nat.{lt-of-le-of-lt}
 use native.Mathlib.Omega.{arith}
-use lib.Dec.{T, lit<}
+use lib.Dec.{T}
 use lib.IntN.{pos, negsuc}
 use lib.ListN.{length}
-use lib.Ieee.{Float, nan, inf, fin, binary32, toBits, ofBits, ofInt, fits, le, lt, neg, isNan, nanBits}
+use lib.Ieee.{Float, nan, inf, fin, binary32, toBits, ofBits, ofInt, fits, le, lt, neg, isNan}
 use lib.Ieee.Fits.{neg-fits}
 use lib.Ieee.Bits.{ofBits-fits, nanBits-is}
-use Rattle.single.proofs.Order.{unsigned, le-or-lt, le→bits, bits-le, neg-neg, signed-bits, neg-le, unsigned-of-le, signed-of-le, signless, pattern-signless, signless-lt, signless-zero, signless-bits}
+use Rattle.single.proofs.Order.{le-or-lt, le→bits, bits-le, neg-neg, signed-bits, neg-le, unsigned-of-le, signed-of-le, signless, pattern-signless, signless-lt, signless-zero, signless-bits}
 use Rattle.single.proofs.Nan.{no-nan-pattern}
 use Rattle.exponent.specs.Table.{table, entry}
-use Rattle.exponent.specs.Exp.{pattern, between, expBits, E}
+use Rattle.exponent.specs.Exp.{between, expBits, E}
 use Rattle.exponent.proofs.Rule.{rule-at}
 use Rattle.exponent.proofs.Guards.{at-nan, at-high, at-low, at-positive, at-negative}
 

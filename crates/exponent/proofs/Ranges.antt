@@ -1,13 +1,12 @@
 -- How large each number of the definition can be. Assumes nothing.
 use mathlib.Core.Path.{_≡_, refl, sym, _∙_, ap}
 use mathlib.Core.Logic.{⊎-elim}
-use mathlib.Core.Bool.{Bool, true, false, cond}
-use Prim.Native.Nat.{ℕ, zero, suc, _+_, _-_, _*_, _/_, _%_, _^_, _≤_, _<_}
+use Prim.Native.Nat.{ℕ, _+_, _-_, _*_, _/_, _%_, _^_, _≤_, _<_}
 use native.Mathlib.Nat.{mul-le-mul, div-eq-of-lt, lt-of-lt-of-le}
 use native.Mathlib.Omega.{arith}
-use lib.Pow.{pow-pos, pow-mono, shr-shr, shr-le}
+use lib.Pow.{pow-mono, shr-shr, shr-le}
 use lib.Dec.{ltb}
-use lib.IntN.{ℤ, pos, negsuc, negℤ, _+ℤ_}
+use lib.IntN.{ℤ}
 use lib.Signed.{mag}
 use mir.Syntax.{w64}
 use mir.Val.{toZ, ofZ}
@@ -15,7 +14,7 @@ use Rattle.single.proofs.Order.{le-or-lt}
 use Rattle.exponent.specs.Table.{entry}
 use Rattle.exponent.specs.Split.{parts}
 use Rattle.exponent.specs.declared.Parts.{Parts}
-use Rattle.exponent.specs.Exp.{nearest, size, scaled, power, raised}
+use Rattle.exponent.specs.Exp.{size, scaled, power, raised}
 use Rattle.exponent.proofs.Rule.{digits-at}
 use Rattle.exponent.proofs.Signed.{back, signed, mag-signed, mag-quotient}
 

@@ -1,11 +1,10 @@
 -- The last step of E: from the exponent and the power to the pattern, in the ordinary range and at the edges. Assumes nothing.
-use mathlib.Core.Path.{_≡_, refl, sym, _∙_, ap}
+use mathlib.Core.Path.{_≡_, refl, _∙_, ap}
 use mathlib.Core.Logic.{⊎-elim}
-use mathlib.Core.Bool.{Bool, true, false, cond}
 use Prim.Native.Nat.{ℕ, zero, suc, _+_, _-_, _*_, _/_, _%_, _^_, _≤_, _<_, min}
 use native.Mathlib.Omega.{arith}
 use borrow.Author.Tests.{le-ltb, lt-ltb}
-use lib.Dec.{T, ltb}
+use lib.Dec.{T}
 use lib.IntN.{ℤ, pos, negsuc, negℤ, natAbs, subℕ, _+ℤ_, _-ℤ_, +ℤ-idl}
 use lib.Signed.{mag, nonNeg}
 use mir.Syntax.{w64}
@@ -13,7 +12,7 @@ use mir.Val.{SFits, toZ, ofZ}
 use mir.Facts.{toZ-ofZ}
 use Rattle.single.proofs.Order.{le-or-lt}
 use Rattle.exponent.specs.Split.{parts}
-use Rattle.exponent.specs.Exp.{nearest, positive, size, scaled, power, raised, pattern, between, expBits}
+use Rattle.exponent.specs.Exp.{nearest, positive, size, scaled, raised, between, expBits}
 use Rattle.exponent.specs.declared.Power.{Power}
 use Rattle.exponent.proofs.Signed.{back, mag-add, mag-negℤ, positive-is, remainder-lt}
 use Rattle.exponent.proofs.Ranges.{shift-le, size-between, size-ordinary, mag-scaled, power-lt}

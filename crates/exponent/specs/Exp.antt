@@ -1,6 +1,6 @@
 -- E, the exp of document 01 ('Tanh and exp'), in whole numbers, from pattern to pattern. Every rounding is one of two: a quotient `/`, which rounds
 -- down, or `nearest`. A 1 / 2^k in a comment is the unit of the number that it speaks of.
-use mathlib.Core.Bool.{Bool, cond, _&&_}
+use mathlib.Core.Bool.{cond, _&&_}
 use Prim.Native.Nat.{ℕ, _+_, _-_, _*_, _/_, _%_, _^_, min}
 use lib.Dec.{ltb, leb}
 use lib.IntN.{ℤ, pos, negsuc, negℤ, _+ℤ_}

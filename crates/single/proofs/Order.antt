@@ -5,7 +5,7 @@ use mathlib.Core.Path.{_≡_, refl, sym, ap, _∙_, subst}
 use mathlib.Core.Logic.{_⊎_, inl, inr, ⊎-elim}
 use mathlib.Core.Bool.{Bool, true, false, not, _&&_, _||_, cond}
 use Prim.Native.Nat.{ℕ, zero, suc, _+_, _-_, _*_, _/_, _%_, _^_, _≤_, _<_, zero-le, suc-le-suc}
-use native.Mathlib.Nat.{le-refl, le-of-lt, le-of-eq, le-trans, lt-of-le-of-lt, le-antisymm, eq-or-lt-of-le, suc-mul, mul-le-mul-right, mul-right-comm, mul-assoc, mul-comm, mul-lt-mul-of-pos-right, le-div-iff-mul-le, div-lt-iff-lt-mul, zero-add, zero-mul, zero-div, mul-pos}
+use native.Mathlib.Nat.{le-refl, le-of-lt, le-of-eq, le-trans, lt-of-le-of-lt, le-antisymm, eq-or-lt-of-le, suc-mul, mul-le-mul-right, mul-right-comm, mul-comm, mul-lt-mul-of-pos-right, le-div-iff-mul-le, div-lt-iff-lt-mul, zero-add, zero-mul, zero-div, mul-pos}
 use native.Mathlib.Omega.{arith}
 use borrow.Author.Tests.{lt-ltb, le-ltb, lt-leb, eq-eqb}
 use lib.IntN.{ℤ, pos}
@@ -16,7 +16,6 @@ use lib.Ieee.Digits.{size-lt, size-le, size-reaches}
 use lib.Ieee.Fits.{and-l, and-r, kept-lt, down-pos, up-pos, two, two-le-pos}
 use lib.Ieee.Bits.{ofBits-toBits}
 use lib.Ieee.Nearest.{div-mono}
-use lib.Ieee.Order.{le-of-values}
 use lib.Ieee.Positive.{positive, above, above-of-le}
 
 pub le-or-lt : (a b : ℕ) → (a ≤ b) ⊎ (b < a)

@@ -1,51 +1,38 @@
-use lib.Ieee.{ofBits, nanBits}
+-- `edge` is E between the guards: the code's two positive parts are the definition's, and the last test is its min. Assumes nothing.
+use lib.Ieee.{ofBits, nanBits, binary32}
 use Rattle.single.proofs.Nan.{no-nan-pattern}
 use Rattle.exponent.proofs.Rounding.{e-back, q-fits, q-back, minus-fits, minus-back, up-small, down-small, edge-is}
-use mathlib.Core.Path.{_≡_, refl, sym, _∙_, ap}
-use Prim.Native.Nat.{ℕ, _+_, _*_, _-_, _/_, _%_, _≤_, _<_}
+use mathlib.Core.Path.{ap}
 use native.Mathlib.Omega.{arith}
-use lib.ListN.{length, set, take, drop, length-set}
-use lib.Ieee.{Float, nan, binary32, add, mul}
 use borrow.Author.Needs.{needs}
 use Rattle.exponent.proofs.edge.Statement.{statement}
 use Rattle.exponent.proofs.edge.Tie as tie
-use Rattle.exponent.proofs.edge.Reads as reads
-use Rattle.exponent.proofs.edge.Lts as lts
-use Rattle.exponent.proofs.pattern_of.Reads as pattern-of-reads
-use Rattle.exponent.proofs.positive_of.Reads as positive-of-reads
-use Rattle.exponent.proofs.raised_of.Reads as raised-of-reads
 
--- src/lib.rt:394:9
 raised-of-requires : tie.Need-raised-of-requires
 raised-of-requires c κs = search needs
 
--- src/lib.rt:395:13
 add-q : tie.Need-add-q
-add-q c = 
+add-q c =
     let b = c .before .before .before .args .bits in
     let is = c .before .before .raised-of .ensures in
     let h = c .before .before .before .pre .1 in
     rw (e-back b is h) (q-fits b is h)
 
--- src/lib.rt:396:24
 positive-of-requires : tie.Need-positive-of-requires
 positive-of-requires c κs = search needs
 
--- src/lib.rt:396:52
 sub-positive-of : tie.Need-sub-positive-of
-sub-positive-of c = 
+sub-positive-of c =
     let b = c .before .before .before .before .args .bits in
     let is = c .before .before .before .raised-of .ensures in
     let h = c .before .before .before .before .pre .1 in
     rw (e-back b is h, q-back b is h) (minus-fits b is h)
 
--- src/lib.rt:396:40
 positive-of-requires-2 : tie.Need-positive-of-requires-2
 positive-of-requires-2 c κs = search needs
 
--- src/lib.rt:396:9
 pattern-of-requires : tie.Need-pattern-of-requires
-pattern-of-requires c κs = 
+pattern-of-requires c κs =
     let b = c .before .before .before .before .before .args .bits in
     let is = c .before .before .before .before .raised-of .ensures in
     let h = c .before .before .before .before .before .pre .1 in
@@ -53,14 +40,12 @@ pattern-of-requires c κs =
     let down = rw (e-back b is h, q-back b is h, minus-back b is h) at (c .positive-of2 .ensures) in
     (omega (arith, up-small b is h), omega (arith, down-small b is h))
 
--- src/lib.rt:398:16
 float-from-bits-result : tie.Need-float-from-bits-result
 unfolding nanBits
 float-from-bits-result c = tt
 
--- src/lib.rt:398:9
 returns : tie.Need-returns
-returns c = 
+returns c =
     let b = c .before .before .before .before .before .before .before .args .bits in
     let is = c .before .before .before .before .before .before .raised-of .ensures in
     let h = c .before .before .before .before .before .before .before .pre .1 in
@@ -69,17 +54,14 @@ returns c =
     let e = edge-is b is h (c .before .before .before .positive-of .result) (c .before .before .positive-of2 .result) (c .before .pattern-of .result) up down (c .before .pattern-of .ensures) in
     ap (ofBits binary32) (omega arith)
 
--- src/lib.rt:400:20
 cast-result : tie.Need-cast-result
 cast-result c = search needs
 
--- src/lib.rt:400:5
 float-from-bits-result-2 : tie.Need-float-from-bits-result-2
 float-from-bits-result-2 c = no-nan-pattern _ (omega arith)
 
--- src/lib.rt:390:1
 returns-2 : tie.Need-returns-2
-returns-2 c = 
+returns-2 c =
     let b = c .before .before .before .before .before .before .before .args .bits in
     let is = c .before .before .before .before .before .before .raised-of .ensures in
     let h = c .before .before .before .before .before .before .before .pre .1 in

@@ -1,56 +1,44 @@
+-- `raised_of` is the definition's exponent and power: two splits of small numbers, each as it is defined. Assumes nothing.
 use Rattle.exponent.specs.Exp.{scaled}
 use Rattle.exponent.specs.Split.{parts}
 use Rattle.exponent.proofs.Ranges.{scaled-small, scaled-back, whole-small, exponent-small, raised-is}
 use Rattle.exponent.proofs.Signed.{back}
-use mathlib.Core.Path.{_≡_, refl, sym, _∙_, ap}
-use Prim.Native.Nat.{ℕ, _+_, _*_, _-_, _/_, _%_, _≤_, _<_}
+use mathlib.Core.Path.{_≡_, _∙_, ap}
 use native.Mathlib.Omega.{arith}
-use lib.ListN.{length, set, take, drop, length-set}
-use lib.Ieee.{Float, nan, binary32, add, mul}
 use borrow.Author.Needs.{needs}
 use Rattle.exponent.proofs.raised_of.Statement.{statement}
 use Rattle.exponent.proofs.raised_of.Tie as tie
-use Rattle.exponent.proofs.raised_of.Reads as reads
-use Rattle.exponent.proofs.raised_of.Lts as lts
-use Rattle.exponent.proofs.power_of.Reads as power-of-reads
-use Rattle.exponent.proofs.scaled_of.Reads as scaled-of-reads
-use Rattle.exponent.proofs.split.Reads as split-reads
 
--- src/lib.rt:353:19
 scaled-of-requires : tie.Need-scaled-of-requires
 scaled-of-requires c κs = search needs
 
--- src/lib.rt:353:9
 split-requires : tie.Need-split-requires
-split-requires c κs = 
+split-requires c κs =
     let b = c .before .args .bits in
     let h = c .before .pre .1 in
     rw (scaled-back b h (c .scaled-of .result) (c .scaled-of .ensures)) (scaled-small b h, search needs)
 
--- src/lib.rt:354:9
 split-requires-2 : tie.Need-split-requires-2
-split-requires-2 c κs = 
+split-requires-2 c κs =
     let b = c .before .before .before .args .bits in
     let h = c .before .before .before .pre .1 in
     let k = c .before .split .result in
     let e1 : k ≡ parts (scaled b) 16777216 =
-        c .before .split .ensures .is ∙ ap (λ z. parts z 16777216) (scaled-back b h (c .before .before .scaled-of .result) (c .before .before .scaled-of .ensures))
+    c .before .split .ensures .is ∙ ap (λ z. parts z 16777216) (scaled-back b h (c .before .before .scaled-of .result) (c .before .before .scaled-of .ensures))
     in
     let s1 = whole-small b h k e1 in
     rw (back (k .quotient) (omega arith)) (s1, search needs)
 
--- src/lib.rt:357:15
 power-of-requires : tie.Need-power-of-requires
 power-of-requires c κs = search needs
 
--- src/lib.rt:349:1
 returns : tie.Need-returns
-returns c = 
+returns c =
     let b = c .before .before .before .before .before .before .args .bits in
     let h = c .before .before .before .before .before .before .pre .1 in
     let k = c .before .before .before .before .split .result in
     let e1 : k ≡ parts (scaled b) 16777216 =
-        c .before .before .before .before .split .ensures .is ∙ ap (λ z. parts z 16777216) (scaled-back b h (c .before .before .before .before .before .scaled-of .result) (c .before .before .before .before .before .scaled-of .ensures))
+    c .before .before .before .before .split .ensures .is ∙ ap (λ z. parts z 16777216) (scaled-back b h (c .before .before .before .before .before .scaled-of .result) (c .before .before .before .before .before .scaled-of .ensures))
     in
     let s1 = whole-small b h k e1 in
     let j = c .before .before .split2 .result in
