@@ -1,15 +1,16 @@
 // exp, as nam-rs's activation.rs takes it from Rust's f32: here a table of 256 whole numbers and whole-number steps, equal bit for bit to the
 // definition E. Document 01, 'Tanh and exp'.
 //
-// The ordinary values, |x| below 87, take one path without a branch: exp asks for them with one comparison, and all others are left to seldom.
+// The ordinary values, |x| below 87, take one path without a branch: one comparison tells them, and all others are left to seldom. An array that is a
+// constant is made anew wherever it is read, so the table is lent: whoever loops keeps one and calls exp_by.
 use single::not_a_number;
 use single::to_bits;
 ghost use mathlib.Core.Path.{_≡_};
-ghost use Prim.Native.Nat.{_+_, _*_, _%_, _^_, _<_, _≤_};
+ghost use Prim.Native.Nat.{_+_, _*_, _%_, _^_, _<_};
 ghost use lib.Signed.{mag};
 ghost use lib.Ieee.{binary32, ofBits};
 ghost use Rattle.exponent.specs.Table.{table, entry};
-ghost use Rattle.exponent.specs.Exp.{nearest, positive, size, scaled, power, raised, between, expBits, E};
+ghost use Rattle.exponent.specs.Exp.{nearest, positive, magnitude, scaled, power, raised, between, expBits, E};
 ghost use Rattle.exponent.specs.Split.{Splits};
 
 // T: entry j is the whole number nearest to 2^(30 + j/256).
@@ -284,7 +285,7 @@ pub struct Power {
     pub size: u64,
 }
 
-// whole by 2^bits.
+// whole by 2^bits. The shift copies the sign, so it rounds down for negative numbers too.
 fn split(whole: i64, bits: u32) -> Parts
     requires { ⌜ (mag whole < 2 ^ 40) × (bits < 32) ⌝ }
     ensures { λ r. ⌜ Splits whole (2 ^ bits) r ⌝ }
@@ -298,7 +299,7 @@ fn split(whole: i64, bits: u32) -> Parts
     }
 }
 
-// The table, for a caller to keep and lend.
+// The table, to keep and lend.
 pub fn entries() -> [u32; 256]
     ensures { λ r. ⌜ r ≡ table ⌝ }
 {
@@ -324,9 +325,9 @@ pub fn power_of(t: &[u32; 256], j: u64, f: u64) -> u64
 }
 
 // |x| log2 e in 1 / 2^32. A shift by 63 leaves 0, as any longer one would.
-fn size_of(bits: u32) -> u64
+fn magnitude_of(bits: u32) -> u64
     requires { ⌜ bits % 2 ^ 31 < 0x42d0_0000 ⌝ }
-    ensures { λ r. ⌜ r ≡ size bits ⌝ }
+    ensures { λ r. ⌜ r ≡ magnitude bits ⌝ }
 {
     let a = (bits % 0x8000_0000) as u64;
     let m = 8388608 + a % 8388608;
@@ -342,7 +343,7 @@ fn scaled_of(bits: u32) -> i64
     ensures { λ r. ⌜ r ≡ scaled bits ⌝ }
 {
     let negative = (bits / 0x8000_0000) as i64;
-    (1 - 2 * negative) * (size_of(bits) as i64)
+    (1 - 2 * negative) * (magnitude_of(bits) as i64)
 }
 
 // e^x, before it is rounded to a float.
@@ -350,7 +351,9 @@ fn raised_of(t: &[u32; 256], bits: u32) -> Power
     requires { ⌜ (now t ≡ table) × (bits % 2 ^ 31 < 0x42d0_0000) ⌝ }
     ensures { λ r. ⌜ r ≡ raised bits ⌝ }
 {
+    // by 2^24: the whole part of x 256 log2 e, and its fraction
     let k = split(scaled_of(bits), 24);
+    // by 256: the exponent, and the entry
     let j = split(k.quotient, 8);
     Power {
         exponent: j.quotient,
@@ -421,7 +424,7 @@ fn seldom(t: &[u32; 256], bits: u32) -> f32
     edge(t, bits)
 }
 
-// E, with the table lent: a loop keeps the table of entries and spares its making at each step.
+// E of x, with the table lent.
 pub fn exp_by(t: &[u32; 256], x: f32) -> f32
     requires { ⌜ now t ≡ table ⌝ }
     ensures { λ r. ⌜ r ≡ E x ⌝ }
@@ -433,7 +436,7 @@ pub fn exp_by(t: &[u32; 256], x: f32) -> f32
     seldom(t, bits)
 }
 
-// E.
+// E of x, where one value is wanted: it makes the table for it.
 pub fn exp(x: f32) -> f32
     ensures { λ r. ⌜ r ≡ E x ⌝ }
 {
