@@ -4,6 +4,7 @@ ghost use mathlib.Core.Path.{_≡_};
 ghost use Prim.Native.Nat.{_+_, _≤_};
 ghost use lib.ListN.{length};
 ghost use Rattle.lists.specs.Tab.{at, fill};
+ghost use Rattle.exponent.specs.Table.{table};
 ghost use Rattle.activation.specs.Activated.{relu, leaky, sigmoid, activated};
 
 mod over;
@@ -36,10 +37,19 @@ fn leaky_of(slope: f32, x: f32) -> f32
     slope * x
 }
 
+// With exp's table lent: a loop makes it once.
+fn sigmoid_by(t: &[u32; 256], x: f32) -> f32
+    requires { ⌜ now t ≡ table ⌝ }
+    ensures { λ r. ⌜ r ≡ sigmoid x ⌝ }
+{
+    1.0 / (1.0 + exponent::exp_by(t, -x))
+}
+
 fn sigmoid_of(x: f32) -> f32
     ensures { λ r. ⌜ r ≡ sigmoid x ⌝ }
 {
-    1.0 / (1.0 + exponent::exp(-x))
+    let t = exponent::entries();
+    sigmoid_by(&t, x)
 }
 
 impl Activation {

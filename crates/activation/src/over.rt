@@ -31,9 +31,10 @@ pub fn sigmoid_over(work: &mut [f32], to: usize, from: usize, n: usize)
     requires { ⌜ (to ≤ from) × (from + n ≤ length (now work)) ⌝ }
     ensures { λ _. ⌜ now (work .exit) ≡ fill to n (λ i. sigmoid (at (now (work .entry)) (from + i))) (now (work .entry)) ⌝ }
 {
+    let t = exponent::entries();
     for i in 0..n {
         let x = work[from + i];
-        work[to + i] = super::sigmoid_of(x);
+        work[to + i] = super::sigmoid_by(&t, x);
     }
 }
 
