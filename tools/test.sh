@@ -1,0 +1,22 @@
+#!/usr/bin/env bash
+# All tests: the quick checks over the static library first, then `rt ci`: every crate proved from nothing, every must-fail edit refused, every
+# program run. The last line is rt's 'N passed, M failed'.
+set -euo pipefail
+cd "$(dirname "$0")/.."
+
+need() { # the packages that the quick checks are built with
+    local missing=()
+    for p in "$@"; do dpkg -s "$p" >/dev/null 2>&1 || missing+=("$p"); done
+    [ ${#missing[@]} -eq 0 ] && return
+    echo "installing ${missing[*]}"
+    apt-get install -y -qq "${missing[@]}" >/dev/null 2>&1 || { apt-get update -qq >/dev/null 2>&1 && apt-get install -y -qq "${missing[@]}" >/dev/null 2>&1; } ||
+        { echo "cannot install ${missing[*]}: install them by hand and run this again" >&2; exit 1; }
+}
+
+need gcc libmpfr-dev
+echo "== the proved exp and tanh against MPFR, a sample of patterns"
+rt staticlib wavenet >target/staticlib.log 2>&1 || { tail -20 target/staticlib.log; exit 1; }
+bash tools/measure/run.sh 20011
+
+echo "== rt ci: proofs from nothing, must-fail edits, programs"
+rt ci
