@@ -31,7 +31,7 @@ pub fn relu_of(x: f32) -> f32
 fn leaky_of(slope: f32, x: f32) -> f32
     ensures { λ r. ⌜ r ≡ leaky slope x ⌝ }
 {
-    if x > 0.0 {
+    if 0.0 < x {
         return x;
     }
     slope * x

@@ -66,16 +66,15 @@ pub fn gating(
     requires { ⌜ GatingFits mode out z n (length (now work)) ⌝ }
     ensures { λ _. ⌜ GatedOver mode primary secondary out z n (now (work .entry)) (now (work .exit)) ⌝ }
 {
+    let g = z + n;
     primary.apply_over(work, out, z, n);
     match mode {
         Mode::None => {}
         Mode::Gated => {
-            let g = z + n;
             secondary.apply_over(work, g, g, n);
             scale_by(work, out, g, n);
         }
         Mode::Blended => {
-            let g = z + n;
             secondary.apply_over(work, g, g, n);
             blend_by(work, out, z, g, n);
         }

@@ -16,20 +16,20 @@ use Rattle.activation.proofs.Activation.apply_over.Reads as apply-over-reads
 use Rattle.gating.proofs.blend_by.Reads as blend-by-reads
 use Rattle.gating.proofs.scale_by.Reads as scale-by-reads
 
--- src/lib.rt:69:5
+-- src/lib.rt:69:13
+add-g : tie.Need-add-g
+add-g c = record { fits = omega (arith, c .before .pre .before, c .before .pre .in-work, rows-least (c .before .args .mode) (c .before .args .n)) }
+
+-- src/lib.rt:70:5
 apply-over-requires : tie.Need-apply-over-requires
 apply-over-requires c κs = (omega (arith, c .before .before .pre .before, c .before .before .pre .in-work, rows-least (c .before .before .args .mode) (c .before .before .args .n)), omega (arith, c .before .before .pre .before, c .before .before .pre .in-work, rows-least (c .before .before .args .mode) (c .before .before .args .n)))
 
 enum-told : tie.Need-enum-told
 enum-told c = search needs
 
--- src/lib.rt:73:21
+-- src/lib.rt:74:34
 enum-told-2 : tie.Need-enum-told-2
 enum-told-2 c = search needs
-
--- src/lib.rt:73:21
-add-g : tie.Need-add-g
-add-g c = record { fits = omega (arith, c .before .before .before .before .before .before .before .pre .before, c .before .before .before .before .before .before .before .pre .in-work, rows-least (c .before .before .before .before .before .before .before .args .mode) (c .before .before .before .before .before .before .before .args .n)) }
 
 -- src/lib.rt:74:13
 apply-over-requires-2 : tie.Need-apply-over-requires-2
@@ -41,20 +41,16 @@ scale-by-requires : tie.Need-scale-by-requires
 unfolding inputRows
 scale-by-requires c κs = (omega (arith, c .before .before .before .before .before .before .before .before .before .before .before .before .pre .before, c .before .before .before .before .before .before .before .before .before .before .before .before .pre .in-work, rows-least (c .before .before .before .before .before .before .before .before .before .before .before .before .args .mode) (c .before .before .before .before .before .before .before .before .before .before .before .before .args .n)), omega (arith, c .before .before .before .before .before .before .before .before .before .before .before .before .pre .before, c .before .before .before .before .before .before .before .before .before .before .before .before .pre .in-work, rows-least (c .before .before .before .before .before .before .before .before .before .before .before .before .args .mode) (c .before .before .before .before .before .before .before .before .before .before .before .before .args .n), ap (λ (m : Mode). inputRows m (c .before .before .before .before .before .before .before .before .before .before .before .before .args .n)) (c .before .before .before .before .before .enum-told2 .given .1), ap length (c .before .before .before .before .before .before .before .before .before .apply-over .ensures) ∙ length-fill _ _ _ _, ap length (c .before .before .before .apply-over2 .ensures) ∙ length-fill _ _ _ _))
 
--- src/lib.rt:78:21
+-- src/lib.rt:78:34
 enum-told-3 : tie.Need-enum-told-3
 enum-told-3 c = search needs
 
--- src/lib.rt:78:21
-add-g-2 : tie.Need-add-g-2
-add-g-2 c = record { fits = omega (arith, c .before .before .before .before .before .before .before .pre .before, c .before .before .before .before .before .before .before .pre .in-work, rows-least (c .before .before .before .before .before .before .before .args .mode) (c .before .before .before .before .before .before .before .args .n)) }
-
--- src/lib.rt:79:13
+-- src/lib.rt:78:13
 apply-over-requires-3 : tie.Need-apply-over-requires-3
 unfolding inputRows
 apply-over-requires-3 c κs = (omega arith, omega (arith, c .before .before .before .before .before .before .before .before .pre .before, c .before .before .before .before .before .before .before .before .pre .in-work, rows-least (c .before .before .before .before .before .before .before .before .args .mode) (c .before .before .before .before .before .before .before .before .args .n), ap (λ (m : Mode). inputRows m (c .before .before .before .before .before .before .before .before .args .n)) (c .before .enum-told3 .given .1), ap length (c .before .before .before .before .before .apply-over .ensures) ∙ length-fill _ _ _ _))
 
--- src/lib.rt:80:13
+-- src/lib.rt:79:13
 blend-by-requires : tie.Need-blend-by-requires
 unfolding inputRows
 blend-by-requires c κs = (omega (arith, c .before .before .before .before .before .before .before .before .before .before .before .before .pre .before, c .before .before .before .before .before .before .before .before .before .before .before .before .pre .in-work, rows-least (c .before .before .before .before .before .before .before .before .before .before .before .before .args .mode) (c .before .before .before .before .before .before .before .before .before .before .before .before .args .n)), omega arith, omega (arith, c .before .before .before .before .before .before .before .before .before .before .before .before .pre .before, c .before .before .before .before .before .before .before .before .before .before .before .before .pre .in-work, rows-least (c .before .before .before .before .before .before .before .before .before .before .before .before .args .mode) (c .before .before .before .before .before .before .before .before .before .before .before .before .args .n), ap (λ (m : Mode). inputRows m (c .before .before .before .before .before .before .before .before .before .before .before .before .args .n)) (c .before .before .before .before .before .enum-told3 .given .1), ap length (c .before .before .before .before .before .before .before .before .before .apply-over .ensures) ∙ length-fill _ _ _ _, ap length (c .before .before .before .apply-over3 .ensures) ∙ length-fill _ _ _ _))
@@ -89,14 +85,13 @@ pub gating-spec : {M : Type 1} → statement M
 gating-spec =
     tie.close
     (tie.spec
+    add-g
     apply-over-requires
     enum-told
     enum-told-2
-    add-g
     apply-over-requires-2
     scale-by-requires
     enum-told-3
-    add-g-2
     apply-over-requires-3
     blend-by-requires
     same-length
