@@ -1,1 +1,3 @@
 mod Cases
+pub mod Folds
+mod Reading

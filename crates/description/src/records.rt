@@ -1,7 +1,7 @@
 // The numbers of a description, read into records by value. Document 01, 'Description' (the table of places).
 ghost use mathlib.Core.Path.{_≡_};
-ghost use Prim.Native.Nat.{_+_, _≤_};
-ghost use lib.ListN.{length};
+ghost use Prim.Native.Nat.{_+_, _<_, _≤_};
+ghost use lib.ListN.{getD, length};
 ghost use Rattle.description.specs.Numbers.{headLength, recordAt, recordLength};
 ghost use Rattle.description.specs.Records.{activationOf, arrayOf, layerOf, modeOf, sitesOf};
 use activation::Activation;
@@ -51,19 +51,27 @@ pub struct LayerRecord {
     pub shift_bits: usize,
 }
 
+// The number at a place.
+fn number(description: &[u32], place: usize) -> usize
+    requires { ⌜ place < length (now description) ⌝ }
+    ensures { λ r. ⌜ r ≡ getD (now (description .entry)) place 0 ⌝ }
+{
+    description[place] as usize
+}
+
 pub fn read_array(description: &[u32]) -> ArrayRecord
     requires { ⌜ headLength ≤ length (now description) ⌝ }
     ensures { λ r. ⌜ r ≡ arrayOf (now (description .entry)) ⌝ }
 {
     ArrayRecord {
-        input: description[0] as usize,
-        condition: description[1] as usize,
-        channels: description[2] as usize,
-        head_in: description[3] as usize,
-        head_size: description[4] as usize,
-        head_kernel: description[5] as usize,
-        head_bias: description[6] == 1,
-        layers: description[7] as usize,
+        input: number(description, 0),
+        condition: number(description, 1),
+        channels: number(description, 2),
+        head_in: number(description, 3),
+        head_size: number(description, 4),
+        head_kernel: number(description, 5),
+        head_bias: number(description, 6) == 1,
+        layers: number(description, 7),
     }
 }
 
@@ -94,14 +102,14 @@ fn read_sites(description: &[u32], at: usize) -> Sites
     ensures { λ r. ⌜ r ≡ sitesOf (now (description .entry)) at ⌝ }
 {
     Sites {
-        conv_pre: description[at] as usize,
-        conv_post: description[at + 1] as usize,
-        input_mixin_pre: description[at + 2] as usize,
-        input_mixin_post: description[at + 3] as usize,
-        activation_pre: description[at + 4] as usize,
-        activation_post: description[at + 5] as usize,
-        layer1x1_post: description[at + 6] as usize,
-        head1x1_post: description[at + 7] as usize,
+        conv_pre: number(description, at),
+        conv_post: number(description, at + 1),
+        input_mixin_pre: number(description, at + 2),
+        input_mixin_post: number(description, at + 3),
+        activation_pre: number(description, at + 4),
+        activation_post: number(description, at + 5),
+        layer1x1_post: number(description, at + 6),
+        head1x1_post: number(description, at + 7),
     }
 }
 
@@ -116,20 +124,20 @@ pub fn record(description: &[u32], l: usize) -> LayerRecord
     let secondary = read_activation(description[at + 8], description[at + 9]);
     let sites = read_sites(description, at + 15);
     LayerRecord {
-        bottleneck: description[at] as usize,
-        kernel: description[at + 1] as usize,
-        dilation: description[at + 2] as usize,
-        conv_groups: description[at + 3] as usize,
-        mixin_groups: description[at + 4] as usize,
+        bottleneck: number(description, at),
+        kernel: number(description, at + 1),
+        dilation: number(description, at + 2),
+        conv_groups: number(description, at + 3),
+        mixin_groups: number(description, at + 4),
         mode,
         primary,
         secondary,
-        layer1x1_groups: description[at + 10] as usize,
-        layer1x1_bias: description[at + 11] == 1,
-        head1x1_width: description[at + 12] as usize,
-        head1x1_groups: description[at + 13] as usize,
-        head1x1_bias: description[at + 14] == 1,
+        layer1x1_groups: number(description, at + 10),
+        layer1x1_bias: number(description, at + 11) == 1,
+        head1x1_width: number(description, at + 12),
+        head1x1_groups: number(description, at + 13),
+        head1x1_bias: number(description, at + 14) == 1,
         sites,
-        shift_bits: description[at + 23] as usize,
+        shift_bits: number(description, at + 23),
     }
 }

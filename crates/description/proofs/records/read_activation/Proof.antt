@@ -1,3 +1,8 @@
+use Rattle.description.proofs.Reading.{past-zero, past-it}
+use Rattle.activation.specs.declared.Activation.the-variants.{Tanh, Relu, Sigmoid}
+use mathlib.Core.List.{[], _∷_}
+use lib.ListN.{List·getD-eq-default}
+use Rattle.description.specs.Records.{activationOf}
 use mathlib.Core.Path.{_≡_, refl, sym, _∙_, ap}
 use Prim.Native.Nat.{ℕ, _+_, _*_, _-_, _/_, _%_, _≤_, _<_}
 use native.Mathlib.Omega.{arith}
@@ -16,19 +21,27 @@ from-bits-requires c κs = search needs
 
 -- src/records.rt:81:1
 returns : tie.Need-returns
-returns c = search needs
+unfolding activationOf
+returns c = rw (c .match .keys1)
 
 -- src/records.rt:81:1
 returns-2 : tie.Need-returns-2
-returns-2 c = search needs
+unfolding activationOf
+returns-2 c = rw (c .match .keys2)
 
 -- src/records.rt:81:1
 returns-3 : tie.Need-returns-3
-returns-3 c = search needs
+unfolding activationOf
+returns-3 c = rw (c .match .keys3)
 
 -- src/records.rt:81:1
 returns-4 : tie.Need-returns-4
-returns-4 c = search needs
+unfolding activationOf
+returns-4 c = 
+    rw (c .from-bits .ensures)
+    (sym
+    (List·getD-eq-default (Tanh ∷ Relu ∷ Sigmoid ∷ []) _ {n = c .before .before .args .code}
+    (past-it 2 (past-it 1 (past-zero (c .before .match .rest .0 .0 .1)) (c .before .match .rest .0 .1)) (c .before .match .rest .1))))
 
 pub read-activation-spec : {M : Type 1} → statement M
 read-activation-spec =

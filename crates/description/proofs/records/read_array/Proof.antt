@@ -1,3 +1,4 @@
+use Rattle.description.proofs.Reading.{array-is}
 use mathlib.Core.Path.{_≡_, refl, sym, _∙_, ap}
 use Prim.Native.Nat.{ℕ, _+_, _*_, _-_, _/_, _%_, _≤_, _<_}
 use native.Mathlib.Omega.{arith}
@@ -8,88 +9,54 @@ use Rattle.description.proofs.records.read_array.Statement.{statement}
 use Rattle.description.proofs.records.read_array.Tie as tie
 use Rattle.description.proofs.records.read_array.Reads as reads
 use Rattle.description.proofs.records.read_array.Lts as lts
+use Rattle.description.proofs.records.number.Reads as number-reads
 
--- src/records.rt:59:16
-shared-slice-read-t3 : tie.Need-shared-slice-read-t3
-shared-slice-read-t3 c = search needs
+-- src/records.rt:67:16
+number-requires : tie.Need-number-requires
+number-requires c κs = search needs
 
--- src/records.rt:59:16
-cast-t4 : tie.Need-cast-t4
-cast-t4 c = search needs
+-- src/records.rt:68:20
+number-requires-2 : tie.Need-number-requires-2
+number-requires-2 c κs = search needs
 
--- src/records.rt:60:20
-shared-slice-read-t6 : tie.Need-shared-slice-read-t6
-shared-slice-read-t6 c = search needs
+-- src/records.rt:69:19
+number-requires-3 : tie.Need-number-requires-3
+number-requires-3 c κs = search needs
 
--- src/records.rt:60:20
-cast-t7 : tie.Need-cast-t7
-cast-t7 c = search needs
+-- src/records.rt:70:18
+number-requires-4 : tie.Need-number-requires-4
+number-requires-4 c κs = search needs
 
--- src/records.rt:61:19
-shared-slice-read-t9 : tie.Need-shared-slice-read-t9
-shared-slice-read-t9 c = search needs
+-- src/records.rt:71:20
+number-requires-5 : tie.Need-number-requires-5
+number-requires-5 c κs = search needs
 
--- src/records.rt:61:19
-cast-t10 : tie.Need-cast-t10
-cast-t10 c = search needs
+-- src/records.rt:72:22
+number-requires-6 : tie.Need-number-requires-6
+number-requires-6 c κs = search needs
 
--- src/records.rt:62:18
-shared-slice-read-t12 : tie.Need-shared-slice-read-t12
-shared-slice-read-t12 c = search needs
+-- src/records.rt:73:20
+number-requires-7 : tie.Need-number-requires-7
+number-requires-7 c κs = search needs
 
--- src/records.rt:62:18
-cast-t13 : tie.Need-cast-t13
-cast-t13 c = search needs
+-- src/records.rt:74:17
+number-requires-8 : tie.Need-number-requires-8
+number-requires-8 c κs = search needs
 
--- src/records.rt:63:20
-shared-slice-read-t15 : tie.Need-shared-slice-read-t15
-shared-slice-read-t15 c = search needs
-
--- src/records.rt:63:20
-cast-t16 : tie.Need-cast-t16
-cast-t16 c = search needs
-
--- src/records.rt:64:22
-shared-slice-read-t18 : tie.Need-shared-slice-read-t18
-shared-slice-read-t18 c = search needs
-
--- src/records.rt:64:22
-cast-t19 : tie.Need-cast-t19
-cast-t19 c = search needs
-
--- src/records.rt:65:20
-shared-slice-read-t21 : tie.Need-shared-slice-read-t21
-shared-slice-read-t21 c = search needs
-
--- src/records.rt:66:17
-shared-slice-read-t24 : tie.Need-shared-slice-read-t24
-shared-slice-read-t24 c = search needs
-
--- src/records.rt:66:17
-cast-t25 : tie.Need-cast-t25
-cast-t25 c = search needs
-
--- src/records.rt:54:1
+-- src/records.rt:62:1
 returns : tie.Need-returns
-returns c = search needs
+returns c = array-is (c .before .before .before .before .before .before .before .before .before .args .description .now) (c .before .before .before .before .before .before .before .number .ensures) (c .before .before .before .before .before .before .number2 .ensures) (c .before .before .before .before .before .number3 .ensures) (c .before .before .before .before .number4 .ensures) (c .before .before .before .number5 .ensures) (c .before .before .number6 .ensures) (c .before .number7 .ensures) (c .number8 .ensures)
 
 pub read-array-spec : {M : Type 1} → statement M
 read-array-spec =
     tie.close
     (tie.spec
-    shared-slice-read-t3
-    cast-t4
-    shared-slice-read-t6
-    cast-t7
-    shared-slice-read-t9
-    cast-t10
-    shared-slice-read-t12
-    cast-t13
-    shared-slice-read-t15
-    cast-t16
-    shared-slice-read-t18
-    cast-t19
-    shared-slice-read-t21
-    shared-slice-read-t24
-    cast-t25
+    number-requires
+    number-requires-2
+    number-requires-3
+    number-requires-4
+    number-requires-5
+    number-requires-6
+    number-requires-7
+    number-requires-8
     returns)

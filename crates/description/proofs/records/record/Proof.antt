@@ -1,3 +1,4 @@
+use Rattle.description.proofs.Reading.{layer-is}
 use mathlib.Core.Path.{_≡_, refl, sym, _∙_, ap}
 use Prim.Native.Nat.{ℕ, _+_, _*_, _-_, _/_, _%_, _≤_, _<_}
 use native.Mathlib.Omega.{arith}
@@ -8,265 +9,187 @@ use Rattle.description.proofs.records.record.Statement.{statement}
 use Rattle.description.proofs.records.record.Tie as tie
 use Rattle.description.proofs.records.record.Reads as reads
 use Rattle.description.proofs.records.record.Lts as lts
+use Rattle.description.proofs.records.number.Reads as number-reads
 use Rattle.description.proofs.records.read_activation.Reads as read-activation-reads
 use Rattle.description.proofs.records.read_mode.Reads as read-mode-reads
 use Rattle.description.proofs.records.read_sites.Reads as read-sites-reads
 
--- src/records.rt:113:28
+-- src/records.rt:121:28
 mul-at : tie.Need-mul-at
 mul-at c = search needs
 
--- src/records.rt:113:14
+-- src/records.rt:121:14
 add-at : tie.Need-add-at
 add-at c = search needs
 
--- src/records.rt:114:38
+-- src/records.rt:122:38
 add-read-mode : tie.Need-add-read-mode
 add-read-mode c = search needs
 
--- src/records.rt:114:26
+-- src/records.rt:122:26
 mul-read-mode : tie.Need-mul-read-mode
 mul-read-mode c = search needs
 
--- src/records.rt:114:26
+-- src/records.rt:122:26
 shared-slice-read-read-mode : tie.Need-shared-slice-read-read-mode
 shared-slice-read-read-mode c = search needs
 
--- src/records.rt:114:9
+-- src/records.rt:122:9
 read-mode-requires : tie.Need-read-mode-requires
 read-mode-requires c κs = search needs
 
--- src/records.rt:115:47
+-- src/records.rt:123:47
 add-read-activation : tie.Need-add-read-activation
 add-read-activation c = search needs
 
--- src/records.rt:115:35
+-- src/records.rt:123:35
 mul-read-activation : tie.Need-mul-read-activation
 mul-read-activation c = search needs
 
--- src/records.rt:115:35
+-- src/records.rt:123:35
 shared-slice-read-read-activation : tie.Need-shared-slice-read-read-activation
 shared-slice-read-read-activation c = search needs
 
--- src/records.rt:115:68
+-- src/records.rt:123:68
 add-read-activation-2 : tie.Need-add-read-activation-2
 add-read-activation-2 c = search needs
 
--- src/records.rt:115:56
+-- src/records.rt:123:56
 mul-read-activation-2 : tie.Need-mul-read-activation-2
 mul-read-activation-2 c = search needs
 
--- src/records.rt:115:56
+-- src/records.rt:123:56
 shared-slice-read-read-activation-2 : tie.Need-shared-slice-read-read-activation-2
 shared-slice-read-read-activation-2 c = search needs
 
--- src/records.rt:115:9
+-- src/records.rt:123:9
 read-activation-requires : tie.Need-read-activation-requires
 read-activation-requires c κs = search needs
 
--- src/records.rt:116:49
+-- src/records.rt:124:49
 add-read-activation-3 : tie.Need-add-read-activation-3
 add-read-activation-3 c = search needs
 
--- src/records.rt:116:37
+-- src/records.rt:124:37
 mul-read-activation-3 : tie.Need-mul-read-activation-3
 mul-read-activation-3 c = search needs
 
--- src/records.rt:116:37
+-- src/records.rt:124:37
 shared-slice-read-read-activation-3 : tie.Need-shared-slice-read-read-activation-3
 shared-slice-read-read-activation-3 c = search needs
 
--- src/records.rt:116:70
+-- src/records.rt:124:70
 add-read-activation-4 : tie.Need-add-read-activation-4
 add-read-activation-4 c = search needs
 
--- src/records.rt:116:58
+-- src/records.rt:124:58
 mul-read-activation-4 : tie.Need-mul-read-activation-4
 mul-read-activation-4 c = search needs
 
--- src/records.rt:116:58
+-- src/records.rt:124:58
 shared-slice-read-read-activation-4 : tie.Need-shared-slice-read-read-activation-4
 shared-slice-read-read-activation-4 c = search needs
 
--- src/records.rt:116:9
+-- src/records.rt:124:9
 read-activation-requires-2 : tie.Need-read-activation-requires-2
 read-activation-requires-2 c κs = search needs
 
--- src/records.rt:117:41
+-- src/records.rt:125:41
 add-read-sites : tie.Need-add-read-sites
 add-read-sites c = search needs
 
--- src/records.rt:117:9
+-- src/records.rt:125:9
 read-sites-requires : tie.Need-read-sites-requires
 read-sites-requires c κs = search needs
 
--- src/records.rt:119:21
-mul-t9 : tie.Need-mul-t9
-mul-t9 c = search needs
+-- src/records.rt:127:21
+number-requires : tie.Need-number-requires
+number-requires c κs = search needs
 
--- src/records.rt:119:21
-shared-slice-read-t11 : tie.Need-shared-slice-read-t11
-shared-slice-read-t11 c = search needs
+-- src/records.rt:128:37
+add-number : tie.Need-add-number
+add-number c = search needs
 
--- src/records.rt:119:21
-cast-t14 : tie.Need-cast-t14
-cast-t14 c = search needs
+-- src/records.rt:128:17
+number-requires-2 : tie.Need-number-requires-2
+number-requires-2 c κs = search needs
 
--- src/records.rt:120:29
-add-t13 : tie.Need-add-t13
-add-t13 c = search needs
+-- src/records.rt:129:39
+add-number-2 : tie.Need-add-number-2
+add-number-2 c = omega (arith, c .before .before .before .before .before .before .before .before .before .before .before .before .pre, c .before .before .before .before .before .before .before .before .before .before .before .before .good)
 
--- src/records.rt:120:17
-mul-t8 : tie.Need-mul-t8
-mul-t8 c = search needs
+-- src/records.rt:129:19
+number-requires-3 : tie.Need-number-requires-3
+number-requires-3 c κs = search needs
 
--- src/records.rt:120:17
-shared-slice-read-t16 : tie.Need-shared-slice-read-t16
-shared-slice-read-t16 c = search needs
+-- src/records.rt:130:42
+add-number-3 : tie.Need-add-number-3
+add-number-3 c = omega (arith, c .before .before .before .before .before .before .before .before .before .before .before .before .before .pre, c .before .before .before .before .before .before .before .before .before .before .before .before .before .good)
 
--- src/records.rt:120:17
-cast-t21 : tie.Need-cast-t21
-cast-t21 c = search needs
+-- src/records.rt:130:22
+number-requires-4 : tie.Need-number-requires-4
+number-requires-4 c κs = search needs
 
--- src/records.rt:121:31
-add-t22 : tie.Need-add-t22
-add-t22 c = search needs
-
--- src/records.rt:121:19
-mul-t23 : tie.Need-mul-t23
-mul-t23 c = search needs
-
--- src/records.rt:121:19
-shared-slice-read-t25 : tie.Need-shared-slice-read-t25
-shared-slice-read-t25 c = search needs
-
--- src/records.rt:121:19
-cast-t26 : tie.Need-cast-t26
-cast-t26 c = search needs
-
--- src/records.rt:122:34
-add-t27 : tie.Need-add-t27
-add-t27 c = search needs
-
--- src/records.rt:122:22
-mul-t28 : tie.Need-mul-t28
-mul-t28 c = search needs
-
--- src/records.rt:122:22
-shared-slice-read-t30 : tie.Need-shared-slice-read-t30
-shared-slice-read-t30 c = search needs
-
--- src/records.rt:122:22
-cast-t31 : tie.Need-cast-t31
-cast-t31 c = search needs
-
--- src/records.rt:123:35
-add-t32 : tie.Need-add-t32
-add-t32 c = search needs
-
--- src/records.rt:123:23
-mul-t33 : tie.Need-mul-t33
-mul-t33 c = search needs
-
--- src/records.rt:123:23
-shared-slice-read-t35 : tie.Need-shared-slice-read-t35
-shared-slice-read-t35 c = search needs
-
--- src/records.rt:123:23
-cast-t36 : tie.Need-cast-t36
-cast-t36 c = search needs
-
--- src/records.rt:127:38
-add-t37 : tie.Need-add-t37
-add-t37 c = search needs
-
--- src/records.rt:127:26
-mul-t38 : tie.Need-mul-t38
-mul-t38 c = search needs
-
--- src/records.rt:127:26
-shared-slice-read-t40 : tie.Need-shared-slice-read-t40
-shared-slice-read-t40 c = search needs
-
--- src/records.rt:127:26
-cast-t41 : tie.Need-cast-t41
-cast-t41 c = search needs
-
--- src/records.rt:128:36
-add-t42 : tie.Need-add-t42
-add-t42 c = search needs
-
--- src/records.rt:128:24
-mul-t43 : tie.Need-mul-t43
-mul-t43 c = search needs
-
--- src/records.rt:128:24
-shared-slice-read-t45 : tie.Need-shared-slice-read-t45
-shared-slice-read-t45 c = search needs
-
--- src/records.rt:129:36
-add-t47 : tie.Need-add-t47
-add-t47 c = search needs
-
--- src/records.rt:129:24
-mul-t48 : tie.Need-mul-t48
-mul-t48 c = search needs
-
--- src/records.rt:129:24
-shared-slice-read-t50 : tie.Need-shared-slice-read-t50
-shared-slice-read-t50 c = search needs
-
--- src/records.rt:129:24
-cast-t51 : tie.Need-cast-t51
-cast-t51 c = search needs
-
--- src/records.rt:130:37
-add-t52 : tie.Need-add-t52
-add-t52 c = search needs
-
--- src/records.rt:130:25
-mul-t53 : tie.Need-mul-t53
-mul-t53 c = search needs
-
--- src/records.rt:130:25
-shared-slice-read-t55 : tie.Need-shared-slice-read-t55
-shared-slice-read-t55 c = search needs
-
--- src/records.rt:130:25
-cast-t56 : tie.Need-cast-t56
-cast-t56 c = search needs
-
--- src/records.rt:131:35
-add-t57 : tie.Need-add-t57
-add-t57 c = search needs
+-- src/records.rt:131:43
+add-number-4 : tie.Need-add-number-4
+add-number-4 c = omega (arith, c .before .before .before .before .before .before .before .before .before .before .before .before .before .before .pre, c .before .before .before .before .before .before .before .before .before .before .before .before .before .before .good)
 
 -- src/records.rt:131:23
-mul-t58 : tie.Need-mul-t58
-mul-t58 c = search needs
+number-requires-5 : tie.Need-number-requires-5
+number-requires-5 c κs = search needs
 
--- src/records.rt:131:23
-shared-slice-read-t60 : tie.Need-shared-slice-read-t60
-shared-slice-read-t60 c = search needs
+-- src/records.rt:135:46
+add-number-5 : tie.Need-add-number-5
+add-number-5 c = omega (arith, c .before .before .before .before .before .before .before .before .before .before .before .before .before .before .before .pre, c .before .before .before .before .before .before .before .before .before .before .before .before .before .before .before .good)
 
--- src/records.rt:133:33
-add-t62 : tie.Need-add-t62
-add-t62 c = search needs
+-- src/records.rt:135:26
+number-requires-6 : tie.Need-number-requires-6
+number-requires-6 c κs = search needs
 
--- src/records.rt:133:21
-mul-t63 : tie.Need-mul-t63
-mul-t63 c = search needs
+-- src/records.rt:136:44
+add-number-6 : tie.Need-add-number-6
+add-number-6 c = omega (arith, c .before .before .before .before .before .before .before .before .before .before .before .before .before .before .before .before .pre, c .before .before .before .before .before .before .before .before .before .before .before .before .before .before .before .before .good)
 
--- src/records.rt:133:21
-shared-slice-read-t65 : tie.Need-shared-slice-read-t65
-shared-slice-read-t65 c = search needs
+-- src/records.rt:136:24
+number-requires-7 : tie.Need-number-requires-7
+number-requires-7 c κs = search needs
 
--- src/records.rt:133:21
-cast-t66 : tie.Need-cast-t66
-cast-t66 c = search needs
+-- src/records.rt:137:44
+add-number-7 : tie.Need-add-number-7
+add-number-7 c = omega (arith, c .before .before .before .before .before .before .before .before .before .before .before .before .before .before .before .before .before .pre, c .before .before .before .before .before .before .before .before .before .before .before .before .before .before .before .before .before .good)
 
--- src/records.rt:109:1
+-- src/records.rt:137:24
+number-requires-8 : tie.Need-number-requires-8
+number-requires-8 c κs = search needs
+
+-- src/records.rt:138:45
+add-number-8 : tie.Need-add-number-8
+add-number-8 c = omega (arith, c .before .before .before .before .before .before .before .before .before .before .before .before .before .before .before .before .before .before .pre, c .before .before .before .before .before .before .before .before .before .before .before .before .before .before .before .before .before .before .good)
+
+-- src/records.rt:138:25
+number-requires-9 : tie.Need-number-requires-9
+number-requires-9 c κs = search needs
+
+-- src/records.rt:139:43
+add-number-9 : tie.Need-add-number-9
+add-number-9 c = omega (arith, c .before .before .before .before .before .before .before .before .before .before .before .before .before .before .before .before .before .before .before .pre, c .before .before .before .before .before .before .before .before .before .before .before .before .before .before .before .before .before .before .before .good)
+
+-- src/records.rt:139:23
+number-requires-10 : tie.Need-number-requires-10
+number-requires-10 c κs = omega (arith, c .before .before .before .before .before .before .before .before .before .before .before .before .before .before .before .before .before .before .before .pre, c .before .before .before .before .before .before .before .before .before .before .before .before .before .before .before .before .before .before .before .good)
+
+-- src/records.rt:141:41
+add-number-10 : tie.Need-add-number-10
+add-number-10 c = omega (arith, c .before .before .before .before .before .before .before .before .before .before .before .before .before .before .before .before .before .before .before .before .pre, c .before .before .before .before .before .before .before .before .before .before .before .before .before .before .before .before .before .before .before .before .good)
+
+-- src/records.rt:141:21
+number-requires-11 : tie.Need-number-requires-11
+number-requires-11 c κs = omega (arith, c .before .before .before .before .before .before .before .before .before .before .before .before .before .before .before .before .before .before .before .before .pre, c .before .before .before .before .before .before .before .before .before .before .before .before .before .before .before .before .before .before .before .before .good)
+
+-- src/records.rt:117:1
 returns : tie.Need-returns
-returns c = search needs
+returns c = 
+    layer-is (c .before .before .before .before .before .before .before .before .before .before .before .before .before .before .before .before .before .before .before .before .before .args .description .now) (c .before .before .before .before .before .before .before .before .before .before .before .before .before .before .before .before .before .before .before .before .before .args .l) (c .before .before .before .before .before .before .before .before .before .before .number .ensures) (c .before .before .before .before .before .before .before .before .before .number2 .ensures) (c .before .before .before .before .before .before .before .before .number3 .ensures) (c .before .before .before .before .before .before .before .number4 .ensures) (c .before .before .before .before .before .before .number5 .ensures) (c .before .before .before .before .before .number6 .ensures) (c .before .before .before .before .number7 .ensures) (c .before .before .before .number8 .ensures) (c .before .before .number9 .ensures) (c .before .number10 .ensures) (c .number11 .ensures) (c .before .before .before .before .before .before .before .before .before .before .before .before .before .before .before .before .before .before .read-mode .ensures) (c .before .before .before .before .before .before .before .before .before .before .before .before .before .before .before .read-activation .ensures) (c .before .before .before .before .before .before .before .before .before .before .before .before .read-activation2 .ensures) (c .before .before .before .before .before .before .before .before .before .before .before .read-sites .ensures)
 
 pub record-spec : {M : Type 1} → statement M
 record-spec =
@@ -294,45 +217,25 @@ record-spec =
     read-activation-requires-2
     add-read-sites
     read-sites-requires
-    mul-t9
-    shared-slice-read-t11
-    cast-t14
-    add-t13
-    mul-t8
-    shared-slice-read-t16
-    cast-t21
-    add-t22
-    mul-t23
-    shared-slice-read-t25
-    cast-t26
-    add-t27
-    mul-t28
-    shared-slice-read-t30
-    cast-t31
-    add-t32
-    mul-t33
-    shared-slice-read-t35
-    cast-t36
-    add-t37
-    mul-t38
-    shared-slice-read-t40
-    cast-t41
-    add-t42
-    mul-t43
-    shared-slice-read-t45
-    add-t47
-    mul-t48
-    shared-slice-read-t50
-    cast-t51
-    add-t52
-    mul-t53
-    shared-slice-read-t55
-    cast-t56
-    add-t57
-    mul-t58
-    shared-slice-read-t60
-    add-t62
-    mul-t63
-    shared-slice-read-t65
-    cast-t66
+    number-requires
+    add-number
+    number-requires-2
+    add-number-2
+    number-requires-3
+    add-number-3
+    number-requires-4
+    add-number-4
+    number-requires-5
+    add-number-5
+    number-requires-6
+    add-number-6
+    number-requires-7
+    add-number-7
+    number-requires-8
+    add-number-8
+    number-requires-9
+    add-number-9
+    number-requires-10
+    add-number-10
+    number-requires-11
     returns)
