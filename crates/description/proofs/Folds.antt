@@ -1,11 +1,22 @@
--- Laws on tests and sums over several things, in the direction of a loop. Assumes nothing.
-use mathlib.Core.Path.{_≡_, refl, ap, sym, _∙_}
-use mathlib.Core.Bool.{Bool, true, false, _||_}
+-- Laws on tests over several things, in the direction of a loop. Assumes nothing.
+use mathlib.Core.Path.{_≡_, refl, sym, _∙_}
+use mathlib.Core.Bool.{Bool, true, false, or-assoc, or-true, _||_}
 use mathlib.Core.List.{List, [], _∷_, _++_}
+use mathlib.Core.Logic.{⊎-elim}
 use Prim.Native.Nat.{ℕ, zero, suc, _+_, _≤_, _<_}
+use native.Mathlib.Nat.{eq-or-lt-of-le, le-of-suc-le-suc, not-suc-le-zero}
 use native.Mathlib.Numerals.{add-one}
 use native.Mathlib.Omega.{arith}
+use lib.ListN.{getD}
 use Rattle.description.specs.Tests.{any, anyBelow}
+
+pub left-false : (a b : Bool) → (a || b) ≡ false → a ≡ false
+left-false false b e = refl
+left-false true b e = e
+
+pub right-false : (a b : Bool) → (a || b) ≡ false → b ≡ false
+right-false false b e = e
+right-false true b e = let z : _≡_ {A = ℕ} 0 1 = cc in absurd (omega arith)
 
 -- one more
 pub any-more : (n : ℕ) (f : ℕ → Bool) {b : Bool} → b ≡ anyBelow n f → (b || f n) ≡ anyBelow (n + 1) f
@@ -15,3 +26,31 @@ any-more n f e = rw (add-one, e)
 -- all of them, once the count is reached
 pub any-end : (n m : ℕ) (f : ℕ → Bool) {b : Bool} → b ≡ anyBelow n f → n ≡ m → b ≡ anyBelow m f
 any-end n m f e h = rw h at e
+
+-- where none passes, each fails
+pub none-below : (n : ℕ) (f : ℕ → Bool) → anyBelow n f ≡ false → (i : ℕ) → i < n → f i ≡ false
+unfolding anyBelow
+none-below zero f e i lt = absurd (not-suc-le-zero lt)
+none-below (suc n) f e i lt =
+    ⊎-elim (λ q. rw q (right-false (anyBelow n f) (f n) e)) (λ l. none-below n f (left-false (anyBelow n f) (f n) e) i l)
+    (eq-or-lt-of-le {n = i} {m = n} (le-of-suc-le-suc lt))
+
+-- where one passes, some does
+pub some-below : (n : ℕ) (f : ℕ → Bool) (i : ℕ) → i < n → f i ≡ true → anyBelow n f ≡ true
+unfolding anyBelow
+some-below zero f i lt e = absurd (not-suc-le-zero lt)
+some-below (suc n) f i lt e =
+    ⊎-elim (λ q. let h : f n ≡ true = rw q at e in rw (h, or-true (anyBelow n f))) (λ l. rw (some-below n f i l e))
+    (eq-or-lt-of-le {n = i} {m = n} (le-of-suc-le-suc lt))
+
+pub any-append : {A : Type 0} (f : A → Bool) (xs ys : List A) → any f (xs ++ ys) ≡ (any f xs || any f ys)
+unfolding any
+any-append f [] ys = refl
+any-append f (x ∷ xs) ys = rw (any-append f xs ys) (sym (or-assoc (f x) (any f xs) (any f ys)))
+
+-- where none of a list passes, the one at each place fails, and so does what stands past the end
+pub none-of : {A : Type 0} (f : A → Bool) (z : A) (xs : List A) → any f xs ≡ false → f z ≡ false → (i : ℕ) → f (getD xs i z) ≡ false
+unfolding any
+none-of f z [] e h i = h
+none-of f z (x ∷ xs) e h zero = left-false (f x) (any f xs) e
+none-of f z (x ∷ xs) e h (suc i) = none-of f z xs (right-false (f x) (any f xs) e) h i

@@ -1,3 +1,5 @@
 mod Cases
 pub mod Folds
+pub mod Ranging
 mod Reading
+pub mod Slots

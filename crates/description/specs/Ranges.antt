@@ -40,8 +40,8 @@ pub record LayerRanges (r : LayerRecord) : Type 0 where
 pub record Fits (p : Part) : Type 0 where
   pub shape : (sh : Shape) → p ≡ There sh → InRange sh
 
--- a place so low that a part's counts can be added
-pub record Low (place : Place) : Type 0 where
-  pub weights : place .weights ≤ 0x8000_0000
-  pub histories : place .histories ≤ 0x8000_0000
-  pub positions : place .positions ≤ 0x8000_0000
+-- a place no higher than a bound
+pub record Low (bound : ℕ) (place : Place) : Type 0 where
+  pub weights : place .weights ≤ bound
+  pub histories : place .histories ≤ bound
+  pub positions : place .positions ≤ bound

@@ -49,10 +49,10 @@ withLayer t a r =
       depth = t .depth + reach r;
     }
 
--- a tally so low that a layer can be added
+-- a tally so low that another layer can be added
 pub record LowTally (t : Tally) : Type 0 where
-  pub place : Low (t .counted .place)
-  pub depth : t .depth ≤ 0x8000_0000
+  pub place : Low 0x1_0000_0000 (t .counted .place)
+  pub depth : t .depth ≤ 0x1_0000_0000
 
 -- the answer, with the head rechannel
 unfoldable pub answerOf : Tally → ArrayRecord → Checked

@@ -13,7 +13,7 @@ pub struct Place {
 impl Place {
     // The place of the next part.
     pub fn past(self, part: Part) -> Place
-        requires { ⌜ Low self ⌝ }
+        requires { ⌜ Low 0x100_0000_0000 self ⌝ }
         requires { ⌜ Fits part ⌝ }
         ensures { λ r. ⌜ r ≡ pastOf self part ⌝ }
     {

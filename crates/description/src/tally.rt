@@ -63,7 +63,7 @@ fn unmatched(a: ArrayRecord, r: LayerRecord) -> bool
 
 // The slots of a layer, from the place where they start.
 fn count(start: Counted, a: ArrayRecord, r: LayerRecord) -> Counted
-    requires { ⌜ Low (start .place) ⌝ }
+    requires { ⌜ Low 0x1_0000_0000 (start .place) ⌝ }
     requires { ⌜ ArrayRanges a ⌝ }
     requires { ⌜ LayerRanges r ⌝ }
     ensures { λ c. ⌜ c ≡ countAll start (slotsOf a r) ⌝ }
