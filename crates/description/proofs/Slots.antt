@@ -3,7 +3,7 @@ use mathlib.Core.Path.{_≡_, refl, sym, _∙_, ap, subst}
 use mathlib.Core.Bool.{Bool, true, false, cond}
 use mathlib.Core.List.{List, [], _∷_}
 use mathlib.Core.Logic.{⊎-elim}
-use Prim.Native.Nat.{ℕ, zero, suc, _+_, _*_, _-_, _/_, _%_, _≤_, _<_}
+use Prim.Native.Nat.{ℕ, zero, suc, _+_, _*_, _-_, _/_, _%_, _^_, _≤_, _<_}
 use native.Mathlib.Nat.{eq-zero-or-pos, mod-lt, mul-le-mul}
 use native.Mathlib.Omega.{arith}
 use lib.Dec.{eqb}
@@ -187,3 +187,13 @@ site-slot a r (suc (suc (suc (suc (suc (suc (suc (suc i)))))))) lt = absurd (ome
 pub slot-site : (a : ArrayRecord) (r : LayerRecord) (k : ℕ) → 4 ≤ k → k < 12 → siteOf a r (k - 4) ≡ partOf a r k
 slot-site a r k le lt =
     let e : 4 + (k - 4) ≡ k = omega arith in sym (site-slot a r (k - 4) (omega arith)) ∙ ap (partOf a r) e
+
+-- scales, and as many shifts where the bit is set
+pub doubled-le : (w x : ℕ) → w ≤ 64 → w * (1 + x % 2) ≤ 128
+doubled-le w x h = mul-le-mul {n₁ = w} {m₁ = 1 + x % 2} {n₂ = 64} {m₂ = 2} h (omega (arith, mod-lt x {m = 2} (omega arith)))
+
+pub site-there : (a : ArrayRecord) (r : LayerRecord) (i g w : ℕ) → g ≡ siteGroups (r .sites) i → (g ≡ 0 → ⊥) → w ≡ siteWidth a r i
+    → There (pointwise (a .condition) (w * (1 + r .«shift_bits» / 2 ^ i % 2)) g true) ≡ siteOf a r i
+unfolding siteOf unless0
+site-there a r i g w eg ne ew =
+    rw (ne-eqb (siteGroups (r .sites) i) 0 (λ z. ne (eg ∙ z)), eg, ew, one-or-two (r .«shift_bits» / 2 ^ i % 2) (mod-lt _ {m = 2} (omega arith)))

@@ -1,3 +1,10 @@
+use Prim.Native.Nat.{_^_}
+use Rattle.description.proofs.Slots.{doubled-le, site-there}
+use native.Mathlib.Nat.{mod-lt, mul-le-mul}
+use borrow.Author.Tests.{ne-eqb, eq-eqb}
+use Rattle.description.proofs.Slots.{one-or-two, site-width-range}
+use Rattle.description.specs.ZeroRules.{bit}
+use Rattle.description.specs.Parts.{siteOf, unless0, siteGroups, siteWidth}
 use mathlib.Core.Path.{_≡_, refl, sym, _∙_, ap}
 use Prim.Native.Nat.{ℕ, _+_, _*_, _-_, _/_, _%_, _≤_, _<_}
 use native.Mathlib.Omega.{arith}
@@ -17,7 +24,8 @@ site-groups-requires c κs = search needs
 
 -- src/parts.rt:178:9
 returns : tie.Need-returns
-returns c = search needs
+unfolding siteOf unless0
+returns c = rw (eq-eqb _ _ (sym (c .before .site-groups .ensures) ∙ c .if1 .taken))
 
 -- src/parts.rt:181:16
 site-width-requires : tie.Need-site-width-requires
@@ -33,11 +41,11 @@ add-outs c = search needs
 
 -- src/parts.rt:181:16
 mul-outs : tie.Need-mul-outs
-mul-outs c = search needs
+mul-outs c = record { fits = omega (arith, doubled-le (c .site-width .result) (c .before .before .before .before .args .r .«shift_bits» / 2 ^ c .before .before .before .before .args .i) (rw (c .site-width .ensures) (site-width-range (c .before .before .before .before .pre .0) (c .before .before .before .before .pre .1 .0) (c .before .before .before .before .args .i) (c .before .before .before .before .pre .1 .1) .most))) }
 
 -- src/parts.rt:169:1
 returns-2 : tie.Need-returns-2
-returns-2 c = search needs
+returns-2 c = site-there (c .before .before .before .before .args .a) (c .before .before .before .before .args .r) (c .before .before .before .before .args .i) (c .before .before .site-groups .result) (c .site-width .result) (c .before .before .site-groups .ensures) (c .before .if1 .left) (c .site-width .ensures)
 
 pub site-spec : {M : Type 1} → statement M
 site-spec =

@@ -1,3 +1,5 @@
+use Rattle.description.proofs.Reading.{past-zero, past-it}
+use Rattle.description.proofs.Slots.{slot-site}
 use Rattle.description.specs.Parts.{partOf, slotsOf}
 use mathlib.Core.Path.{_≡_, refl, sym, _∙_, ap}
 use Prim.Native.Nat.{ℕ, _+_, _*_, _-_, _/_, _%_, _≤_, _<_}
@@ -61,7 +63,7 @@ returns-4 c = rw (c .before .match .keys4, c .head1x1 .ensures)
 
 -- src/parts.rt:193:1
 returns-5 : tie.Need-returns-5
-returns-5 c = search needs
+returns-5 c = c .site .ensures ∙ slot-site _ _ (c .before .before .args .k) (past-it 3 (past-it 2 (past-it 1 (past-zero (c .before .match .rest .0 .0 .0 .1)) (c .before .match .rest .0 .0 .1)) (c .before .match .rest .0 .1)) (c .before .match .rest .1)) (c .before .before .pre .1 .1)
 
 pub slot-spec : {M : Type 1} → statement M
 slot-spec =

@@ -1,3 +1,5 @@
+use native.Mathlib.Nat.{max-zero}
+use Rattle.description.specs.Sizes.{largest}
 use mathlib.Core.Path.{_≡_, refl, sym, _∙_, ap}
 use Prim.Native.Nat.{ℕ, _+_, _*_, _-_, _/_, _%_, _≤_, _<_}
 use native.Mathlib.Omega.{arith}
@@ -28,7 +30,8 @@ larger-requires-4 c κs = search needs
 
 -- src/tally.rt:36:1
 returns : tie.Need-returns
-returns c = search needs
+unfolding largest
+returns c = rw (c .larger4 .ensures, c .before .larger3 .ensures, c .before .before .larger2 .ensures, c .before .before .before .larger .ensures, max-zero)
 
 pub array-widest-spec : {M : Type 1} → statement M
 array-widest-spec =

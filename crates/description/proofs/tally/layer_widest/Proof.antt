@@ -1,3 +1,5 @@
+use native.Mathlib.Nat.{max-zero}
+use Rattle.description.specs.Sizes.{largest}
 use mathlib.Core.Path.{_≡_, refl, sym, _∙_, ap}
 use Prim.Native.Nat.{ℕ, _+_, _*_, _-_, _/_, _%_, _≤_, _<_}
 use native.Mathlib.Omega.{arith}
@@ -25,7 +27,8 @@ larger-requires-2 c κs = search needs
 
 -- src/tally.rt:43:1
 returns : tie.Need-returns
-returns c = search needs
+unfolding largest
+returns c = rw (c .larger2 .ensures, c .before .larger .ensures, c .before .before .doubled .ensures, max-zero)
 
 pub layer-widest-spec : {M : Type 1} → statement M
 layer-widest-spec = tie.close (tie.spec doubled-requires larger-requires larger-requires-2 returns)
