@@ -1,5 +1,8 @@
+pub mod Answering
 mod Cases
 pub mod Folds
 pub mod Ranging
+pub mod Passing
 mod Reading
 pub mod Slots
+pub mod Totals

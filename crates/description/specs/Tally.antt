@@ -54,10 +54,9 @@ pub record LowTally (t : Tally) : Type 0 where
   pub place : Low 0x1_0000_0000 (t .counted .place)
   pub depth : t .depth ≤ 0x1_0000_0000
 
--- the answer, with the head rechannel
-unfoldable pub answerOf : Tally → ArrayRecord → Checked
-answerOf t a =
-    let place = pastOf (t .counted .place) (headRechannelOf a) in
+-- the answer, where the parts end at a place
+unfoldable pub answerAt : Tally → Place → Checked
+answerAt t place =
     cond (t .counted .uneven) (Refused 3)
     (cond (t .unmatched) (Refused 4)
     (cond (ltb most (place .weights) || ltb most (place .histories)) (Refused 5)
@@ -69,3 +68,7 @@ answerOf t a =
       widest = t .widest;
       depth = t .depth;
     }))))
+
+-- the head rechannel is the last part
+unfoldable pub answerOf : Tally → ArrayRecord → Checked
+answerOf t a = answerAt t (pastOf (t .counted .place) (headRechannelOf a))

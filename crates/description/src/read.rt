@@ -6,7 +6,7 @@ ghost use Rattle.description.specs.Answers.{LayerAnswers};
 use crate::answers::LayerAnswer;
 use crate::limits::{breaks_range, LAYER_LIMITS};
 use crate::numbers::{HEAD_LENGTH, RECORD_LENGTH};
-use crate::records::record;
+use crate::records::layer_record;
 use crate::zeros::breaks_zero_rule;
 
 pub fn read_layer(description: &[u32], l: usize) -> LayerAnswer
@@ -20,5 +20,5 @@ pub fn read_layer(description: &[u32], l: usize) -> LayerAnswer
     if breaks_zero_rule(description, at) {
         return LayerAnswer::Broken;
     }
-    LayerAnswer::Read(record(description, l))
+    LayerAnswer::Read(layer_record(description, l))
 }

@@ -114,7 +114,7 @@ fn read_sites(description: &[u32], at: usize) -> Sites
 }
 
 // Layer l's record, whatever its numbers are.
-pub fn record(description: &[u32], l: usize) -> LayerRecord
+pub fn layer_record(description: &[u32], l: usize) -> LayerRecord
     requires { ⌜ recordAt l + recordLength ≤ length (now description) ⌝ }
     ensures { λ r. ⌜ r ≡ layerOf (now (description .entry)) l ⌝ }
 {

@@ -1,3 +1,6 @@
+use Rattle.description.specs.Parts.{rechannelOf}
+use Rattle.description.proofs.Slots.{rechannel-fits}
+use Rattle.description.proofs.Passing.{origin-low, past-origin, start-is}
 use mathlib.Core.Path.{_≡_, refl, sym, _∙_, ap}
 use Prim.Native.Nat.{ℕ, _+_, _*_, _-_, _/_, _%_, _≤_, _<_}
 use native.Mathlib.Omega.{arith}
@@ -18,7 +21,7 @@ rechannel-requires c κs = search needs
 
 -- src/tally.rt:95:13
 past-requires : tie.Need-past-requires
-past-requires c κs = search needs
+past-requires c κs = (origin-low _, rw (c .rechannel .ensures) (rechannel-fits (c .before .pre)))
 
 -- src/tally.rt:100:13
 array-widest-requires : tie.Need-array-widest-requires
@@ -26,7 +29,7 @@ array-widest-requires c κs = search needs
 
 -- src/tally.rt:86:5
 returns : tie.Need-returns
-returns c = search needs
+returns c = start-is (c .before .before .before .args .a) (rw (c .before .before .rechannel .ensures) at (c .before .past .ensures) ∙ past-origin (rechannelOf (c .before .before .before .args .a))) (c .array-widest .ensures)
 
 pub start-spec : {M : Type 1} → statement M
 start-spec = tie.close (tie.spec rechannel-requires past-requires array-widest-requires returns)

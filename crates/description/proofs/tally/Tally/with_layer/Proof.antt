@@ -1,3 +1,4 @@
+use Rattle.description.proofs.Passing.{layer-in, reach-le}
 use mathlib.Core.Path.{_≡_, refl, sym, _∙_, ap}
 use Prim.Native.Nat.{ℕ, _+_, _*_, _-_, _/_, _%_, _≤_, _<_}
 use native.Mathlib.Omega.{arith}
@@ -35,15 +36,15 @@ sub-t9 c = search needs
 
 -- src/tally.rt:123:33
 mul-t10 : tie.Need-mul-t10
-mul-t10 c = search needs
+mul-t10 c = record { fits = omega (arith, reach-le (c .before .before .before .before .before .before .before .before .pre .1 .1)) }
 
 -- src/tally.rt:123:20
 add-t11 : tie.Need-add-t11
-add-t11 c = search needs
+add-t11 c = record { fits = omega (arith, reach-le (c .before .before .before .before .before .before .before .before .before .pre .1 .1), c .before .before .before .before .before .before .before .before .before .pre .0 .depth) }
 
 -- src/tally.rt:109:5
 returns : tie.Need-returns
-returns c = search needs
+returns c = layer-in (c .before .before .before .before .before .before .before .before .before .args .self) (c .before .before .before .before .before .before .before .before .before .args .a) (c .before .before .before .before .before .before .before .before .before .args .r) (c .before .before .before .before .before .before .before .count .ensures) (c .before .before .before .before .before .before .unmatched .ensures) (rw (c .before .before .before .before .layer-widest .ensures) at (c .before .before .before .larger .ensures))
 
 pub with-layer-spec : {M : Type 1} → statement M
 with-layer-spec =

@@ -5,10 +5,10 @@ use native.Mathlib.Omega.{arith}
 use lib.ListN.{length, set, take, drop, length-set}
 use lib.Ieee.{Float, nan, binary32, add, mul}
 use borrow.Author.Needs.{needs}
-use Rattle.description.proofs.records.record.Statement.{statement}
-use Rattle.description.proofs.records.record.Tie as tie
-use Rattle.description.proofs.records.record.Reads as reads
-use Rattle.description.proofs.records.record.Lts as lts
+use Rattle.description.proofs.records.layer_record.Statement.{statement}
+use Rattle.description.proofs.records.layer_record.Tie as tie
+use Rattle.description.proofs.records.layer_record.Reads as reads
+use Rattle.description.proofs.records.layer_record.Lts as lts
 use Rattle.description.proofs.records.number.Reads as number-reads
 use Rattle.description.proofs.records.read_activation.Reads as read-activation-reads
 use Rattle.description.proofs.records.read_mode.Reads as read-mode-reads
@@ -191,8 +191,8 @@ returns : tie.Need-returns
 returns c = 
     layer-is (c .before .before .before .before .before .before .before .before .before .before .before .before .before .before .before .before .before .before .before .before .before .args .description .now) (c .before .before .before .before .before .before .before .before .before .before .before .before .before .before .before .before .before .before .before .before .before .args .l) (c .before .before .before .before .before .before .before .before .before .before .number .ensures) (c .before .before .before .before .before .before .before .before .before .number2 .ensures) (c .before .before .before .before .before .before .before .before .number3 .ensures) (c .before .before .before .before .before .before .before .number4 .ensures) (c .before .before .before .before .before .before .number5 .ensures) (c .before .before .before .before .before .number6 .ensures) (c .before .before .before .before .number7 .ensures) (c .before .before .before .number8 .ensures) (c .before .before .number9 .ensures) (c .before .number10 .ensures) (c .number11 .ensures) (c .before .before .before .before .before .before .before .before .before .before .before .before .before .before .before .before .before .before .read-mode .ensures) (c .before .before .before .before .before .before .before .before .before .before .before .before .before .before .before .read-activation .ensures) (c .before .before .before .before .before .before .before .before .before .before .before .before .read-activation2 .ensures) (c .before .before .before .before .before .before .before .before .before .before .before .read-sites .ensures)
 
-pub record-spec : {M : Type 1} → statement M
-record-spec =
+pub layer-record-spec : {M : Type 1} → statement M
+layer-record-spec =
     tie.close
     (tie.spec
     mul-at
