@@ -8,7 +8,7 @@ use native.Mathlib.Omega.{arith}
 use lib.Dec.{ltb, eqb, lit<}
 use lib.ListN.{getD, length}
 use borrow.Author.Tests.{ltb-false, lt-ltb, ne-eqb, eqb-true}
-use Rattle.description.specs.Numbers.{number, recordAt}
+use Rattle.description.specs.Numbers.{layerCount, number, recordAt}
 use Rattle.description.specs.Limits.{arrayLimits, breaksRange, layerLimits, outside}
 use Rattle.description.specs.ZeroRules.{breaksActivations, breaksParts, breaksSites, breaksZeroRule, none, some}
 use Rattle.description.specs.Records.{arrayOf, layerOf, sitesOf}
@@ -99,3 +99,7 @@ layer-ranges d l e =
         sites-le d (recordAt l)
         (λ i lt. inside 0 32 _ (rw (site-limits i lt) at (at (15 + i) (omega arith))) .most);
     }
+
+pub layers-between : (d : List ℕ) → breaksRange arrayLimits d 0 ≡ false → Between 1 24 (layerCount d)
+unfolding arrayOf
+layers-between d e = array-ranges d e .layers

@@ -1,5 +1,5 @@
 -- Laws on counts over a list of parts: end to end, one part more, and bounds. Assumes nothing.
-use mathlib.Core.Path.{_≡_, refl, sym, _∙_, ap}
+use mathlib.Core.Path.{_≡_, refl, sym, _∙_, ap, subst}
 use mathlib.Core.Bool.{Bool, true, false, or-assoc, or-false, _||_}
 use mathlib.Core.List.{List, [], _∷_, _++_}
 use Prim.Native.Nat.{ℕ, zero, suc, _+_, _*_, _≤_, _<_, max}
@@ -106,3 +106,8 @@ unfolding countAll
 count-end start ps k place odd e o le =
     rw (o, take-all k ps le)
     (ap {A = Place} {B = Counted} (λ p. record { place = p; uneven = start .uneven || any unevenOf ps }) (rw (take-all k ps le) at e))
+
+pub past-low-all : (bound : ℕ) (place : Place) (ps : List Part) → Low bound place → ((i : ℕ) → Fits (getD ps i Absent))
+    → Low (bound + length ps * 0x40_0000) (pastAll place ps)
+past-low-all bound place ps low fits =
+    subst (λ (q : List Part). Low (bound + length ps * 0x40_0000) (pastAll place q)) (take-length ps) (past-low bound place ps low fits (length ps))
