@@ -1,13 +1,15 @@
 -- Laws on tests over several things, in the direction of a loop. Assumes nothing.
-use mathlib.Core.Path.{_≡_, refl, sym, _∙_}
+use mathlib.Core.Path.{_≡_, refl, sym, _∙_, ap}
 use mathlib.Core.Bool.{Bool, true, false, or-assoc, or-true, _||_}
 use mathlib.Core.List.{List, [], _∷_, _++_}
 use mathlib.Core.Logic.{⊎-elim}
-use Prim.Native.Nat.{ℕ, zero, suc, _+_, _≤_, _<_}
-use native.Mathlib.Nat.{eq-or-lt-of-le, le-of-suc-le-suc, not-suc-le-zero}
+use Prim.Native.Nat.{ℕ, zero, suc, _+_, _*_, _≤_, _<_}
+use native.Mathlib.Nat.{eq-or-lt-of-le, le-of-suc-le-suc, mul-le-mul-left, mul-suc, mul-zero, not-suc-le-zero}
 use native.Mathlib.Numerals.{add-one}
 use native.Mathlib.Omega.{arith}
-use lib.ListN.{getD}
+use lib.ListN.{getD, length, length-append, List·getD-append}
+use lib.Seq.{getD-append-add}
+use Rattle.description.specs.Parts.{eachLayer}
 use Rattle.description.specs.Tests.{any, anyBelow}
 
 pub left-false : (a b : Bool) → (a || b) ≡ false → a ≡ false
@@ -54,3 +56,23 @@ unfolding any
 none-of f z [] e h i = h
 none-of f z (x ∷ xs) e h zero = left-false (f x) (any f xs) e
 none-of f z (x ∷ xs) e h (suc i) = none-of f z xs (right-false (f x) (any f xs) e) h i
+
+-- layers end to end: each has m elements, so element k of layer l is element m l + k
+pub length-each : {A : Type 0} (f : ℕ → List A) (m : ℕ) → ((l : ℕ) → length (f l) ≡ m) → (n : ℕ) → length (eachLayer f n) ≡ m * n
+unfolding eachLayer
+length-each f m h zero = sym (mul-zero m)
+length-each f m h (suc n) = length-append (eachLayer f n) (f n) ∙ rw (length-each f m h n, h n) (sym (mul-suc m n))
+
+pub each-at : {A : Type 0} (f : ℕ → List A) (m : ℕ) → ((l : ℕ) → length (f l) ≡ m) → (z : A) (n l k : ℕ) → l < n → k < m
+    → getD (eachLayer f n) (m * l + k) z ≡ getD (f l) k z
+unfolding eachLayer
+each-at f m h z zero l k lt km = absurd (not-suc-le-zero lt)
+each-at f m h z (suc n) l k lt km =
+    ⊎-elim
+    (λ q.
+    let e : length (eachLayer f n) + k ≡ m * l + k = ap (λ (x : ℕ). x + k) (length-each f m h n ∙ ap (λ (x : ℕ). m * x) (sym q)) in
+    rw (← e) (getD-append-add (eachLayer f n) (f n) k z ∙ ap (λ (l : ℕ). getD (f l) k z) (sym q)))
+    (λ less.
+    List·getD-append (eachLayer f n) (f n) z (m * l + k) (rw (length-each f m h n) (omega (arith, mul-le-mul-left {m = suc l} {n = n} m less, mul-suc m l)))
+    ∙ each-at f m h z n l k less km)
+    (eq-or-lt-of-le {n = l} {m = n} (le-of-suc-le-suc lt))

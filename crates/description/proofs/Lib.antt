@@ -5,4 +5,5 @@ pub mod Ranging
 pub mod Passing
 mod Reading
 pub mod Slots
+pub mod Sound
 pub mod Totals
