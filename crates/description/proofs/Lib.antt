@@ -1,5 +1,6 @@
 pub mod Answering
 mod Cases
+pub mod Facts
 pub mod Folds
 pub mod Ranging
 pub mod Passing
