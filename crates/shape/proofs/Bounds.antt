@@ -7,6 +7,10 @@ use native.Mathlib.Omega.{arith}
 use Rattle.shape.specs.declared.Shape.{Shape}
 use Rattle.shape.specs.Counts.{InRange, ringLength, kernelCount, weightCount, historyCount}
 
+bias-le : (b : Bool) (n : ℕ) → n ≤ 128 → cond b n 0 ≤ 128
+bias-le true n h = h
+bias-le false n h = omega arith
+
 module _ {sh : Shape} (f : InRange sh) where
   -- the furthest tap: 15 dilations of 2048
   pub reach-le : (sh .kernel - 1) * sh .dilation ≤ 30720
@@ -32,3 +36,11 @@ module _ {sh : Shape} (f : InRange sh) where
 
   pub history-le : sh .ins * ringLength sh ≤ 3932288
   history-le = mul-le-mul {n₁ = sh .ins} {m₁ = ringLength sh} {n₂ = 128} {m₂ = 30721} (f .ins-high) ring-le
+
+  pub weight-le : weightCount sh ≤ 262272
+  unfolding weightCount
+  weight-le = omega (arith, kernel-le, bias-le (sh .biased) (sh .outs) (f .outs-high))
+
+  pub history-count-le : historyCount sh ≤ 3932288
+  unfolding historyCount
+  history-count-le = history-le

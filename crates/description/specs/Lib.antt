@@ -1,0 +1,11 @@
+pub mod Answers
+pub mod Limits
+pub mod Numbers
+pub mod Parts
+pub mod Ranges
+pub mod Records
+pub mod Refusals
+pub mod Sizes
+pub mod Tally
+pub mod Tests
+pub mod ZeroRules
