@@ -1,0 +1,340 @@
+// A causal, dilated, grouped convolution of a planar block of columns, over regions of one scratch. Carries conv.rs (`process_sample`,
+// `process_block`). Document 01, 'The recurrence': start at the bias, or +0 without one; add product by product, tap 0 upward, within a tap local
+// input 0 upward.
+use ring::Ring;
+use shape::Shape;
+
+// The number that a sum starts at.
+fn bias(weights: &[f32], biased: bool, i: usize) -> f32
+{
+    if biased { weights[i] } else { 0.0 }
+}
+
+// ---- many columns at once: weight by weight, sixteen columns side by side
+
+fn start(work: &mut [f32], weights: &[f32], out: usize, m: usize, n: usize, sh: Shape)
+{
+    let outs = sh.outs;
+    let biased = sh.biased;
+    let count = sh.kernel_count();
+    for o in 0..outs {
+        let b = bias(weights, biased, count + o);
+        sums::flat(work, out + o * m, n, b);
+    }
+}
+
+fn tap_group(
+    work: &mut [f32],
+    weights: &[f32],
+    out: usize,
+    m: usize,
+    from: usize,
+    stride: usize,
+    n: usize,
+    sh: Shape,
+    k: usize,
+    g: usize,
+)
+{
+    let kernel = sh.kernel;
+    let ipg = sh.inputs_per_group();
+    let opg = sh.outputs_per_group();
+    let row = from + g * ipg * stride;
+    for i in 0..opg {
+        let o = g * opg + i;
+        sums::add_row(work, weights, out + o * m, row, stride, n, o * ipg * kernel + k, kernel, ipg);
+    }
+}
+
+fn tap(
+    work: &mut [f32],
+    weights: &[f32],
+    out: usize,
+    m: usize,
+    from: usize,
+    stride: usize,
+    n: usize,
+    sh: Shape,
+    k: usize,
+)
+{
+    let groups = sh.groups;
+    for g in 0..groups {
+        tap_group(work, weights, out, m, from, stride, n, sh, k, g);
+    }
+}
+
+fn read_tap(
+    work: &mut [f32],
+    history: &[f32],
+    weights: &[f32],
+    x: usize,
+    out: usize,
+    rows: usize,
+    ring: Ring,
+    sh: Shape,
+    m: usize,
+    n: usize,
+    k: usize,
+)
+{
+    let back = (sh.kernel - 1 - k) * sh.dilation;
+    if back == 0 {
+        tap(work, weights, out, m, x, m, n, sh, k);
+    } else {
+        let ins = sh.ins;
+        history::gather(work, history, rows, x, m, ring, ins, back, n);
+        tap(work, weights, out, m, rows, n, n, sh, k);
+    }
+}
+
+fn taps(
+    work: &mut [f32],
+    history: &[f32],
+    weights: &[f32],
+    x: usize,
+    out: usize,
+    rows: usize,
+    ring: Ring,
+    sh: Shape,
+    m: usize,
+    n: usize,
+)
+{
+    let kernel = sh.kernel;
+    for k in 0..kernel {
+        read_tap(work, history, weights, x, out, rows, ring, sh, m, n, k);
+    }
+}
+
+fn columns(
+    work: &mut [f32],
+    history: &mut [f32],
+    weights: &[f32],
+    x: usize,
+    out: usize,
+    rows: usize,
+    ring: Ring,
+    sh: Shape,
+    m: usize,
+    n: usize,
+) -> Ring
+{
+    start(work, weights, out, m, n, sh);
+    taps(work, history, weights, x, out, rows, ring, sh, m, n);
+    let ins = sh.ins;
+    history::store(history, work, x, m, ring, ins, n)
+}
+
+// ---- one column: eight outputs side by side, out of the history
+
+fn start_eight(weights: &[f32], biased: bool, from: usize) -> [f32; 8]
+{
+    let mut r = [0.0f32; 8];
+    for i in 0..8 {
+        let b = bias(weights, biased, from + i);
+        r[i] = b;
+    }
+    r
+}
+
+fn taps_eight(
+    sums: [f32; 8],
+    history: &[f32],
+    weights: &[f32],
+    ring: Ring,
+    sh: Shape,
+    g: usize,
+    o: usize,
+) -> [f32; 8]
+{
+    let ins = sh.ins;
+    let kernel = sh.kernel;
+    let dilation = sh.dilation;
+    let ipg = sh.inputs_per_group();
+    let base = g * ipg;
+    let between = ipg * kernel;
+    let w = o * between;
+    let mut r = sums;
+    for k in 0..kernel {
+        let column = ring.back((kernel - 1 - k) * dilation);
+        let more = sums::add_outputs(r, history, weights, column * ins + base, w + k, between, kernel, ipg);
+        r = more;
+    }
+    r
+}
+
+fn taps_one(
+    sum: f32,
+    history: &[f32],
+    weights: &[f32],
+    ring: Ring,
+    sh: Shape,
+    g: usize,
+    o: usize,
+) -> f32
+{
+    let ins = sh.ins;
+    let kernel = sh.kernel;
+    let dilation = sh.dilation;
+    let ipg = sh.inputs_per_group();
+    let base = g * ipg;
+    let w = o * ipg * kernel;
+    let mut r = sum;
+    for k in 0..kernel {
+        let column = ring.back((kernel - 1 - k) * dilation);
+        r = sums::add_output(r, history, weights, column * ins + base, w + k, kernel, ipg);
+    }
+    r
+}
+
+fn eights(
+    work: &mut [f32],
+    history: &[f32],
+    weights: &[f32],
+    out: usize,
+    m: usize,
+    ring: Ring,
+    sh: Shape,
+    g: usize,
+    first: usize,
+    q: usize,
+)
+{
+    let biased = sh.biased;
+    let count = sh.kernel_count();
+    for i in 0..q {
+        let o = first + i * 8;
+        let begun = start_eight(weights, biased, count + o);
+        let sums = taps_eight(begun, history, weights, ring, sh, g, o);
+        sums::put(work, out + o * m, m, sums);
+    }
+}
+
+fn ones(
+    work: &mut [f32],
+    history: &[f32],
+    weights: &[f32],
+    out: usize,
+    m: usize,
+    ring: Ring,
+    sh: Shape,
+    g: usize,
+    first: usize,
+    q: usize,
+)
+{
+    let biased = sh.biased;
+    let count = sh.kernel_count();
+    for i in 0..q {
+        let o = first + i;
+        let begun = bias(weights, biased, count + o);
+        let sum = taps_one(begun, history, weights, ring, sh, g, o);
+        work[out + o * m] = sum;
+    }
+}
+
+fn group_outputs(
+    work: &mut [f32],
+    history: &[f32],
+    weights: &[f32],
+    out: usize,
+    m: usize,
+    ring: Ring,
+    sh: Shape,
+    g: usize,
+)
+{
+    let opg = sh.outputs_per_group();
+    let first = g * opg;
+    let q = opg / 8;
+    eights(work, history, weights, out, m, ring, sh, g, first, q);
+    ones(work, history, weights, out, m, ring, sh, g, first + q * 8, opg - q * 8);
+}
+
+fn outputs(
+    work: &mut [f32],
+    history: &[f32],
+    weights: &[f32],
+    out: usize,
+    m: usize,
+    ring: Ring,
+    sh: Shape,
+)
+{
+    let groups = sh.groups;
+    for g in 0..groups {
+        group_outputs(work, history, weights, out, m, ring, sh, g);
+    }
+}
+
+fn column(
+    work: &mut [f32],
+    history: &mut [f32],
+    weights: &[f32],
+    x: usize,
+    out: usize,
+    ring: Ring,
+    sh: Shape,
+    m: usize,
+) -> Ring
+{
+    let ins = sh.ins;
+    let next = history::store(history, work, x, m, ring, ins, 1);
+    outputs(work, history, weights, out, m, next, sh);
+    next
+}
+
+// ---- a block, cut into parts
+
+fn width(left: usize) -> usize
+{
+    if left < 16 {
+        return 1;
+    }
+    if left < 256 {
+        return left - left % 16;
+    }
+    256
+}
+
+fn part(
+    work: &mut [f32],
+    history: &mut [f32],
+    weights: &[f32],
+    x: usize,
+    out: usize,
+    rows: usize,
+    ring: Ring,
+    sh: Shape,
+    m: usize,
+    n: usize,
+) -> Ring
+{
+    if n == 1 {
+        return column(work, history, weights, x, out, ring, sh, m);
+    }
+    columns(work, history, weights, x, out, rows, ring, sh, m, n)
+}
+
+pub fn conv(
+    work: &mut [f32],
+    history: &mut [f32],
+    weights: &[f32],
+    x: usize,
+    out: usize,
+    rows: usize,
+    ring: Ring,
+    sh: Shape,
+    m: usize,
+) -> Ring
+{
+    let mut place = ring;
+    let mut t = 0;
+    while t < m {
+        let n = width(m - t);
+        place = part(work, history, weights, x + t, out + t, rows, place, sh, m, n);
+        t = t + n;
+    }
+    place
+}
