@@ -6,11 +6,11 @@ use Prim.Native.Nat.{ℕ, zero, suc, _+_, _-_, _*_, _≤_, _<_, min, max}
 use native.Mathlib.Nat.{not-suc-le-zero, le-of-suc-le-suc, eq-or-lt-of-le, suc-mul, add-zero, add-suc}
 use native.Mathlib.Numerals.{add-one}
 use native.Mathlib.Omega.{arith}
-use lib.ListN.{length, getD}
+use lib.ListN.{length, getD, set}
 use Rattle.lists.specs.Tab.{fill, rows}
 use Rattle.lists.specs.Region.{Apart}
 use Rattle.lists.proofs.Nums.{row-end}
-use Rattle.lists.proofs.Fill.{length-fill, fill-ext, fill-join, fill-swap, at-fill-below, at-fill-in, at-fill-out}
+use Rattle.lists.proofs.Fill.{fill-none, fill-turn, length-fill, fill-ext, fill-join, fill-swap, at-fill-below, at-fill-in, at-fill-out}
 
 module _ {A : Type 0} where
   pub rows-none : (a s m : ℕ) (g : ℕ → ℕ → A) (old : List A) → old ≡ rows a s m 0 g old
@@ -27,6 +27,11 @@ module _ {A : Type 0} where
       → last ≡ fill (a + w * s) m f out → ((t : ℕ) → t < m → f t ≡ g w t) → last ≡ rows a s m (w + 1) g old
   unfolding rows
   rows-more a s m w g f out old last e h same = rw (add-one, h, sym e) (fill-ext (a + w * s) m f (g w) out same)
+
+  -- rows of one place each: one store more
+  pub rows-cell : (a s w : ℕ) (g : ℕ → ℕ → A) (out old : List A) (v : A) → out ≡ rows a s 1 w g old → v ≡ g w 0 → set out (a + w * s) v ≡ rows a s 1 (w + 1) g old
+  rows-cell a s w g out old v e h =
+      rows-more a s 1 w g (g w) out old (set out (a + w * s) v) e (rw add-zero at (fill-turn out out (a + w * s) 0 (g w) v (sym (fill-none _ _ out)) h)) (λ t lt. refl)
 
   pub rows-ext : (a s m w : ℕ) (f g : ℕ → ℕ → A) (old : List A) → ((c t : ℕ) → c < w → t < m → f c t ≡ g c t) → rows a s m w f old ≡ rows a s m w g old
   unfolding rows

@@ -11,6 +11,7 @@ pub record InputsFit (nwork nweights from stride n w step many : ℕ) : Type 0 w
 -- .. onto a row of n sums at `to`, sixteen at a time
 pub record RowFits (nwork nweights to from stride n w step many : ℕ) : Type 0 where
   pub whole : n % 16 ≡ 0
+  pub some : 0 < many
   pub sums-in : to + n ≤ nwork
   pub inputs : InputsFit nwork nweights from stride n w step many
   pub apart : (j : ℕ) → j < many → Apart to n (from + j * stride) n

@@ -1,3 +1,5 @@
+use Rattle.lists.proofs.Fill.{fill-none, fill-turn, fill-step, fill-apart, fill-all, length-fill}
+use Rattle.lists.specs.Tab.{at, tab, fill, rows}
 use mathlib.Core.Path.{_≡_, refl, sym, _∙_, ap}
 use Prim.Native.Nat.{ℕ, _+_, _*_, _-_, _/_, _%_, _≤_, _<_}
 use native.Mathlib.Omega.{arith}
@@ -10,14 +12,15 @@ use Rattle.sums.proofs.flat.Reads as reads
 use Rattle.sums.proofs.flat.Lts as lts
 
 abbrev Inv-loop : tie.InvT-loop
-Inv-loop work₀ to n v t₀ work t = ?
+Inv-loop work₀ to n v t₀ work t =
+    (t ≤ n) × (length work ≡ length work₀) × (work ≡ fill to t (λ t. v) work₀)
 
 abbrev μ-loop : tie.MeasureT-loop
-μ-loop work₀ to n v t₀ work t = ?
+μ-loop work₀ to n v t₀ work t = n - t
 
 -- src/lib.rt:98:5
 loop-holds : tie.Need-loop-holds Inv-loop μ-loop
-loop-holds c = search needs
+loop-holds c = (search needs, search needs, sym (fill-none _ _ _))
 
 -- src/lib.rt:99:14
 add-work : tie.Need-add-work Inv-loop μ-loop
@@ -41,7 +44,7 @@ loop-less c = search needs
 
 -- src/lib.rt:98:5
 loop-again : tie.Need-loop-again Inv-loop μ-loop
-loop-again c = search needs
+loop-again c = (search needs, search needs, fill-turn _ _ _ _ _ _ (c .before .loop .inv .2) refl)
 
 -- src/lib.rt:94:1
 same-length : tie.Need-same-length Inv-loop μ-loop
@@ -49,7 +52,7 @@ same-length c = search needs
 
 -- src/lib.rt:94:1
 returns : tie.Need-returns Inv-loop μ-loop
-returns c = search needs
+returns c = let e : c .before .loop .t ≡ c .before .before .args .n = omega arith in rw e at (c .before .loop .inv .2)
 
 pub flat-spec : {M : Type 1} → statement M
 flat-spec =
