@@ -184,7 +184,8 @@ fn taps_one(
     let kernel = sh.kernel;
     let ipg = sh.inputs_per_group();
     let base = g * ipg;
-    let w = o * ipg * kernel;
+    let between = ipg * kernel;
+    let w = o * between;
     let mut r = sum;
     for k in 0..kernel {
         let back = steps_back(sh, k);

@@ -16,39 +16,39 @@ Inv-loop weights biased from r₀ i₀ r i = ?
 abbrev μ-loop : tie.MeasureT-loop
 μ-loop weights biased from r₀ i₀ r i = ?
 
--- src/lib.rt:166:5
+-- src/lib.rt:174:5
 loop-holds : tie.Need-loop-holds Inv-loop μ-loop
 loop-holds c = search needs
 
--- src/lib.rt:167:39
+-- src/lib.rt:175:39
 add-bias : tie.Need-add-bias Inv-loop μ-loop
 add-bias c = search needs
 
--- src/lib.rt:167:13
+-- src/lib.rt:175:13
 bias-requires : tie.Need-bias-requires Inv-loop μ-loop
 bias-requires c κs = search needs
 
--- src/lib.rt:168:9
+-- src/lib.rt:176:9
 mul-r : tie.Need-mul-r Inv-loop μ-loop
 mul-r c = search needs
 
--- src/lib.rt:168:9
+-- src/lib.rt:176:9
 array-write-r : tie.Need-array-write-r Inv-loop μ-loop
 array-write-r c = search needs
 
--- src/lib.rt:166:9
+-- src/lib.rt:174:9
 add-i : tie.Need-add-i Inv-loop μ-loop
 add-i c = search needs
 
--- src/lib.rt:166:5
+-- src/lib.rt:174:5
 loop-less : tie.Need-loop-less Inv-loop μ-loop
 loop-less c = search needs
 
--- src/lib.rt:166:5
+-- src/lib.rt:174:5
 loop-again : tie.Need-loop-again Inv-loop μ-loop
 loop-again c = search needs
 
--- src/lib.rt:161:1
+-- src/lib.rt:169:1
 returns : tie.Need-returns Inv-loop μ-loop
 returns c = search needs
 

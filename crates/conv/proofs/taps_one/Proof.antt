@@ -8,81 +8,74 @@ use Rattle.conv.proofs.taps_one.Statement.{statement}
 use Rattle.conv.proofs.taps_one.Tie as tie
 use Rattle.conv.proofs.taps_one.Reads as reads
 use Rattle.conv.proofs.taps_one.Lts as lts
+use Rattle.conv.proofs.steps_back.Reads as steps-back-reads
 use Rattle.ring.proofs.Ring.back.Reads as back-reads
 use Rattle.shape.proofs.Shape.inputs_per_group.Reads as inputs-per-group-reads
 use Rattle.sums.proofs.add_output.Reads as add-output-reads
 
 abbrev Inv-loop : tie.InvT-loop
-Inv-loop sum history weights ring g o ins kernel dilation ipg base w r₀ k₀ r k = ?
+Inv-loop sum history weights ring sh g o ins kernel ipg base w r₀ k₀ r k = ?
 
 abbrev μ-loop : tie.MeasureT-loop
-μ-loop sum history weights ring g o ins kernel dilation ipg base w r₀ k₀ r k = ?
+μ-loop sum history weights ring sh g o ins kernel ipg base w r₀ k₀ r k = ?
 
--- src/lib.rt:217:9
+-- src/lib.rt:224:9
 inputs-per-group-requires : tie.Need-inputs-per-group-requires Inv-loop μ-loop
 inputs-per-group-requires c κs = search needs
 
--- src/lib.rt:218:16
+-- src/lib.rt:225:16
 mul-base : tie.Need-mul-base Inv-loop μ-loop
 mul-base c = search needs
 
--- src/lib.rt:219:13
+-- src/lib.rt:226:13
 mul-w : tie.Need-mul-w Inv-loop μ-loop
 mul-w c = search needs
 
--- src/lib.rt:219:13
+-- src/lib.rt:226:13
 mul-w-2 : tie.Need-mul-w-2 Inv-loop μ-loop
 mul-w-2 c = search needs
 
--- src/lib.rt:221:5
+-- src/lib.rt:228:5
 loop-holds : tie.Need-loop-holds Inv-loop μ-loop
 loop-holds c = search needs
 
--- src/lib.rt:222:33
-sub-back : tie.Need-sub-back Inv-loop μ-loop
-sub-back c = search needs
+-- src/lib.rt:229:13
+steps-back-requires : tie.Need-steps-back-requires Inv-loop μ-loop
+steps-back-requires c κs = search needs
 
--- src/lib.rt:222:33
-sub-back-2 : tie.Need-sub-back-2 Inv-loop μ-loop
-sub-back-2 c = search needs
-
--- src/lib.rt:222:32
-mul-back : tie.Need-mul-back Inv-loop μ-loop
-mul-back c = search needs
-
--- src/lib.rt:222:13
+-- src/lib.rt:230:13
 back-requires : tie.Need-back-requires Inv-loop μ-loop
 back-requires c κs = search needs
 
--- src/lib.rt:223:51
+-- src/lib.rt:231:51
 mul-add-output : tie.Need-mul-add-output Inv-loop μ-loop
 mul-add-output c = search needs
 
--- src/lib.rt:223:51
+-- src/lib.rt:231:51
 add-add-output : tie.Need-add-add-output Inv-loop μ-loop
 add-add-output c = search needs
 
--- src/lib.rt:223:72
+-- src/lib.rt:231:72
 add-add-output-2 : tie.Need-add-add-output-2 Inv-loop μ-loop
 add-add-output-2 c = search needs
 
--- src/lib.rt:223:9
+-- src/lib.rt:231:9
 add-output-requires : tie.Need-add-output-requires Inv-loop μ-loop
 add-output-requires c κs = search needs
 
--- src/lib.rt:221:9
+-- src/lib.rt:228:9
 add-k : tie.Need-add-k Inv-loop μ-loop
 add-k c = search needs
 
--- src/lib.rt:221:5
+-- src/lib.rt:228:5
 loop-less : tie.Need-loop-less Inv-loop μ-loop
 loop-less c = search needs
 
--- src/lib.rt:221:5
+-- src/lib.rt:228:5
 loop-again : tie.Need-loop-again Inv-loop μ-loop
 loop-again c = search needs
 
--- src/lib.rt:202:1
+-- src/lib.rt:210:1
 returns : tie.Need-returns Inv-loop μ-loop
 returns c = search needs
 
@@ -97,9 +90,7 @@ taps-one-spec =
     mul-w
     mul-w-2
     loop-holds
-    sub-back
-    sub-back-2
-    mul-back
+    steps-back-requires
     back-requires
     mul-add-output
     add-add-output
