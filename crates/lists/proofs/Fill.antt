@@ -23,6 +23,10 @@ module _ {A : Type 0} where
   unfolding fill
   fill-turn out old a n f v e h = rw (e, h, add-one)
 
+  -- the same from the list's first place on
+  pub fill-step : (out old : List A) (n : ℕ) (f : ℕ → A) (v : A) → out ≡ fill 0 n f old → v ≡ f n → set out n v ≡ fill 0 (n + 1) f old
+  fill-step out old n f v e h = rw zero-add at (fill-turn out old 0 n f v e h)
+
   pub length-fill : (a n : ℕ) (f : ℕ → A) (old : List A) → length (fill a n f old) ≡ length old
   unfolding fill
   length-fill a zero f old = refl
@@ -100,6 +104,28 @@ module _ {A : Type 0} (d : A) where
       fill-is a n f old (fill a n f (fill a n g old)) (length-fill a n f (fill a n g old) ∙ l1) b
       (λ i h. at-fill-out a n f (fill a n g old) i h ∙ at-fill-out a n g old i h)
       (λ k lt. at-fill-in a n f (fill a n g old) k lt (omega (arith, l1)))
+
+  -- two places of fill that lie apart can be filled in either order
+  pub fill-swap : (a n b k : ℕ) (f g : ℕ → A) (old : List A) → Apart a n b k → a + n ≤ length old → b + k ≤ length old
+      → fill a n f (fill b k g old) ≡ fill b k g (fill a n f old)
+  fill-swap a n b k f g old h ha hb =
+      let la = length-fill a n f old in
+      let lb = length-fill b k g old in
+      fill-is b k g (fill a n f old) (fill a n f (fill b k g old)) (length-fill a n f (fill b k g old) ∙ lb ∙ sym la) (omega (arith, la, hb))
+      (λ i out.
+      ⊎-elim
+      (λ (l : suc i ≤ a). at-fill-below a n f (fill b k g old) i l ∙ at-fill-out b k g old i out ∙ sym (at-fill-below a n f old i l))
+      (λ (l : a < suc i). ⊎-elim
+      (λ (q : a + n ≤ i). at-fill-above a n f (fill b k g old) i q ∙ at-fill-out b k g old i out ∙ sym (at-fill-above a n f old i q))
+      (λ (q : i < a + n).
+      let is : i ≡ a + (i - a) = omega arith in
+      ap (λ (j : ℕ). getD (fill a n f (fill b k g old)) j d) is
+      ∙ at-fill-in a n f (fill b k g old) (i - a) (omega arith) (omega (arith, lb, ha))
+      ∙ sym (at-fill-in a n f old (i - a) (omega arith) ha)
+      ∙ ap (λ (j : ℕ). getD (fill a n f old) j d) (sym is))
+      (le-or-lt (a + n) i))
+      (le-or-lt (suc i) a))
+      (λ i lt. at-fill-out a n f (fill b k g old) (b + i) (omega (arith, h, lt)) ∙ at-fill-in b k g old i lt hb)
 
   -- a whole list filled is a table
   pub fill-all : (n : ℕ) (f : ℕ → A) (old : List A) → length old ≡ n → fill 0 n f old ≡ tab n f

@@ -1,15 +1,16 @@
 -- What a region holds after it was filled, and after something else was. Assumes nothing.
 use mathlib.Core.Path.{_≡_, refl, sym, _∙_, ap}
 use mathlib.Core.List.{List}
-use Prim.Native.Nat.{ℕ, _+_, _*_, _≤_, _<_, min, max}
+use mathlib.Core.Logic.{⊎-elim}
+use Prim.Native.Nat.{ℕ, suc, _+_, _-_, _*_, _≤_, _<_, min, max}
 use native.Mathlib.Omega.{arith}
 use lib.ListN.{length, getD}
 use lib.Ieee.{Float, nan}
 use Rattle.lists.specs.Tab.{at, fill, rows}
-use Rattle.lists.specs.Region.{Apart, cell, Holds, Free}
-use Rattle.lists.proofs.Nums.{row-end}
+use Rattle.lists.specs.Region.{Apart, cell, Holds, Free, Strip, Beside}
+use Rattle.lists.proofs.Nums.{row-end, le-or-lt}
 use Rattle.lists.proofs.Fill.{length-fill, at-fill-out, at-fill-in}
-use Rattle.lists.proofs.Rows.{length-rows, at-rows-in, rows-apart}
+use Rattle.lists.proofs.Rows.{length-rows, at-rows-in, at-rows-out, rows-apart}
 
 -- ---- frames, for every element type
 module _ {A : Type 0} {d : A} where
@@ -60,3 +61,43 @@ fill-holds a w m f g old new e b h = record {
 -- a cell by its place in the region
 pub cell-is : (a m : ℕ) (work : List Float) (c t : ℕ) → at work (a + (c * m + t)) ≡ cell m a work c t
 cell-is a m work c t = ap (at work) (omega arith)
+
+-- ---- some columns of a region
+pub strip-as : {a s w n : ℕ} {f g : ℕ → ℕ → Float} {work : List Float} → Strip a s w n f work → ((c t : ℕ) → c < w → t < n → f c t ≡ g c t) → Strip a s w n g work
+strip-as h e = record { is = λ c t hc ht. h .is c t hc ht ∙ e c t hc ht }
+
+-- columns that P allows to stay hold what they held
+pub strip-free : {P : ℕ → Type 0} {a s w n : ℕ} {f : ℕ → ℕ → Float} {old new : List Float} → Free nan P old new
+    → ((c t : ℕ) → c < w → t < n → P (a + c * s + t)) → Strip a s w n f old → Strip a s w n f new
+strip-free {a = a} {s = s} p h f = record { is = λ c t hc ht. p .is (a + c * s + t) (h c t hc ht) ∙ f .is c t hc ht }
+
+pub rows-strip : (a s n w : ℕ) (g : ℕ → ℕ → Float) (old new : List Float) → new ≡ rows a s n w g old → n ≤ s → a + n + w * s ≤ length old + s → Strip a s w n g new
+rows-strip a s n w g old new e q b = record { is = λ c t hc ht. rw e (at-rows-in nan a s n w g old c t hc ht q b) }
+
+pub rows-beside : {A : Type 0} (d : A) (a s n w : ℕ) (g : ℕ → ℕ → A) (old new : List A) → new ≡ rows a s n w g old → Free d (Beside a s w n) old new
+rows-beside d a s n w g old new e = record { long = ap length e ∙ length-rows a s n w g old; is = λ i h. rw e (at-rows-out d a s n w g old i h) }
+
+-- all columns
+pub strip-holds : {a w m : ℕ} {f : ℕ → ℕ → Float} {work : List Float} → Strip a m w m f work → Holds a w m f work
+strip-holds h = record { is = h .is }
+
+-- the n columns from t on
+pub holds-strip : {a w m : ℕ} {f : ℕ → ℕ → Float} {work : List Float} (t n : ℕ) → t + n ≤ m → Holds a w m f work → Strip (a + t) m w n (λ c i. f c (t + i)) work
+holds-strip {a} {w} {m} {f} {work} t n le h = record {
+  is = λ c i hc hi.
+      let e : a + t + c * m + i ≡ a + c * m + (t + i) = omega arith in
+      ap (at work) e ∙ h .is c (t + i) hc (omega arith);
+}
+
+-- t columns, then n more
+pub strip-join : {a s w : ℕ} {f : ℕ → ℕ → Float} {work : List Float} (t n : ℕ) → Strip a s w t f work → Strip (a + t) s w n (λ c i. f c (t + i)) work → Strip a s w (t + n) f work
+strip-join {a} {s} {w} {f} {work} t n p q = record {
+  is = λ c i hc hi.
+      ⊎-elim
+      (λ (l : suc i ≤ t). p .is c i hc l)
+      (λ (l : t < suc i).
+      let e : a + c * s + i ≡ a + t + c * s + (i - t) = omega arith in
+      let k : t + (i - t) ≡ i = omega arith in
+      ap (at work) e ∙ q .is c (i - t) hc (omega arith) ∙ ap (f c) k)
+      (le-or-lt (suc i) t);
+}

@@ -1,0 +1,58 @@
+-- Sums side by side, for any number of them: one more product in each; and a row of them, sixteen at a time. Assumes nothing.
+use mathlib.Core.Path.{_≡_, refl, sym, _∙_, ap}
+use mathlib.Core.List.{List}
+use Prim.Native.Nat.{ℕ, _+_, _*_, _/_, _%_, _≤_, _<_, min, max}
+use native.Mathlib.Omega.{arith}
+use lib.ListN.{length}
+use lib.Ieee.{Float, nan, binary32, add, mul}
+use Rattle.lists.specs.Tab.{at, tab, fill}
+use Rattle.lists.specs.Region.{Apart}
+use Rattle.lists.proofs.Tab.{at-tab, is-tab, tab-ext, length-tab}
+use Rattle.lists.proofs.Fill.{fill-ext, fill-join, fill-apart}
+use Rattle.single.specs.Sum.{sumFrom}
+use Rattle.single.proofs.Sum.{sum-none, sum-more, sum-ext}
+use Rattle.sums.specs.Product.{product}
+use Rattle.sums.specs.Fits.{InputsFit, RowFits}
+
+pub lanes-none : (n : ℕ) (sums : List Float) (term : ℕ → ℕ → Float) → length sums ≡ n → sums ≡ tab n (λ i. sumFrom (at sums i) 0 (term i))
+lanes-none n sums term e = is-tab nan sums n _ e (λ i h. sym (sum-none (at sums i) (term i)))
+
+pub lanes-more : (n j : ℕ) (start : ℕ → Float) (term : ℕ → ℕ → Float) (sums last : List Float) → sums ≡ tab n (λ i. sumFrom (start i) j (term i))
+    → last ≡ tab n (λ i. add binary32 (at sums i) (term i j)) → last ≡ tab n (λ i. sumFrom (start i) (j + 1) (term i))
+lanes-more n j start term sums last e h =
+    h ∙ tab-ext nan n _ _ (λ i lt. rw (e, at-tab nan n _ i lt) (sum-more (start i) j (term i)))
+
+-- sixteen columns of a row lie where the row does
+pub tile-fits : {nwork nweights to from stride n w step many : ℕ} (i m : ℕ) → RowFits nwork nweights to from stride n w step many → i < n / 16 → m ≡ nwork
+    → InputsFit m nweights (from + i * 16) stride 16 w step many
+tile-fits i m f lt e = record {
+  inputs-in = λ j hj. omega (arith, f .inputs .inputs-in j hj, e, lt);
+  weights-in = f .inputs .weights-in;
+}
+
+-- sixteen columns of a row: read, summed and written back
+module _ (weights old work sums more last : List Float) (to from stride n w step many i : ℕ) (f : RowFits (length old) (length weights) to from stride n w step many)
+    (lt : i < n / 16)
+    (e : work ≡ fill to (i * 16) (λ t. sumFrom (at old (to + t)) many (product weights w step (λ j. at old (from + j * stride + t)))) old)
+    (s : sums ≡ tab 16 (λ k. at work (to + i * 16 + k)))
+    (v : more ≡ tab 16 (λ k. sumFrom (at sums k) many (product weights w step (λ j. at work (from + i * 16 + j * stride + k)))))
+    (l : last ≡ fill (to + i * 16) 16 (at more) work) where
+  abbrev row : ℕ → Float
+  row t = sumFrom (at old (to + t)) many (product weights w step (λ j. at old (from + j * stride + t)))
+
+  -- what was read is what stood there: it lies apart from what is written, or was not written yet
+  same : (k : ℕ) → k < 16 → at more k ≡ row (i * 16 + k)
+  unfolding product
+  same k hk =
+      let is : to + i * 16 + k ≡ to + (i * 16 + k) = omega arith in
+      let begun : at sums k ≡ at old (to + (i * 16 + k)) =
+      rw (s, at-tab nan 16 _ k hk, is) (fill-apart nan to (i * 16) (to + (i * 16 + k)) _ work old e (omega arith)) in
+      rw (v, at-tab nan 16 _ k hk, begun) (sum-ext _ many _ _ (λ j hj.
+      let at-j : from + i * 16 + j * stride + k ≡ from + j * stride + (i * 16 + k) = omega arith in
+      rw (at-j, fill-apart nan to (i * 16) (from + j * stride + (i * 16 + k)) _ work old e (omega (arith, f .apart j hj, lt, hk)))))
+
+  pub row-turn : last ≡ fill to ((i + 1) * 16) row old
+  row-turn =
+      let next : (i + 1) * 16 ≡ i * 16 + 16 = omega arith in
+      l ∙ fill-ext (to + i * 16) 16 (at more) (λ k. row (i * 16 + k)) work same
+      ∙ rw (e, next) (fill-join to (i * 16) 16 row old)
