@@ -1,3 +1,1 @@
 pub mod Cases
-pub mod Rule
-pub mod Steps
