@@ -1,5 +1,6 @@
 pub mod Signed
-pub mod Entries
+pub mod Rule
 pub mod Ranges
 pub mod Guards
 pub mod Rounding
+pub mod Facts

@@ -1,13 +1,12 @@
 -- How large each number of the definition can be. Assumes nothing.
 use mathlib.Core.Path.{_≡_, refl, sym, _∙_, ap}
 use mathlib.Core.Logic.{⊎-elim}
-use mathlib.Core.Bool.{Bool, true, false, cond}
-use Prim.Native.Nat.{ℕ, zero, suc, _+_, _-_, _*_, _/_, _%_, _^_, _≤_, _<_}
+use Prim.Native.Nat.{ℕ, _+_, _-_, _*_, _/_, _%_, _^_, _≤_, _<_}
 use native.Mathlib.Nat.{mul-le-mul, div-eq-of-lt, lt-of-lt-of-le}
 use native.Mathlib.Omega.{arith}
-use lib.Pow.{pow-pos, pow-mono, shr-shr, shr-le}
+use lib.Pow.{pow-mono, shr-shr, shr-le}
 use lib.Dec.{ltb}
-use lib.IntN.{ℤ, pos, negsuc, negℤ, _+ℤ_}
+use lib.IntN.{ℤ}
 use lib.Signed.{mag}
 use mir.Syntax.{w64}
 use mir.Val.{toZ, ofZ}
@@ -15,8 +14,8 @@ use Rattle.single.proofs.Order.{le-or-lt}
 use Rattle.exponent.specs.Table.{entry}
 use Rattle.exponent.specs.Split.{parts}
 use Rattle.exponent.specs.declared.Parts.{Parts}
-use Rattle.exponent.specs.Exp.{nearest, size, scaled, power, raised}
-use Rattle.exponent.proofs.Entries.{digits-at}
+use Rattle.exponent.specs.Exp.{magnitude, scaled, power, raised}
+use Rattle.exponent.proofs.Rule.{digits-at}
 use Rattle.exponent.proofs.Signed.{back, signed, mag-signed, mag-quotient}
 
 -- ---- shifts
@@ -33,23 +32,23 @@ shift-far n k h l = div-eq-of-lt h ∙ sym (div-eq-of-lt (lt-of-lt-of-le h (pow-
 
 -- ---- |x| log2 e
 -- below 2^6 = 64, where the exponent's field is 132 or less
-size-low : (b : ℕ) → b % 2 ^ 31 / 2 ^ 23 ≤ 132 → size b < 93 * 2 ^ 32
-unfolding size
-size-low b h =
+magnitude-low : (b : ℕ) → b % 2 ^ 31 / 2 ^ 23 ≤ 132 → magnitude b < 93 * 2 ^ 32
+unfolding magnitude
+magnitude-low b h =
     let a = b % 2 ^ 31 in
     let n = (2 ^ 23 + a % 2 ^ 23) * 198282496599 in
     omega (arith, shift-le n 23 (155 - a / 2 ^ 23) (omega arith))
 
 -- from 64 to 128
-size-high : (b : ℕ) → b % 2 ^ 31 / 2 ^ 23 ≡ 133 → size b ≡ (2 ^ 23 + b % 2 ^ 31 % 2 ^ 23) * 198282496599 / 2 ^ 22
-unfolding size
-size-high b h = rw h
+magnitude-high : (b : ℕ) → b % 2 ^ 31 / 2 ^ 23 ≡ 133 → magnitude b ≡ (2 ^ 23 + b % 2 ^ 31 % 2 ^ 23) * 198282496599 / 2 ^ 22
+unfolding magnitude
+magnitude-high b h = rw h
 
-pub size-between : (b : ℕ) → b % 2 ^ 31 < 0x42d0_0000 → size b < 151 * 2 ^ 32
-size-between b h = ⊎-elim (λ l. omega (arith, size-low b l)) (λ l. omega (arith, size-high b (omega arith))) (le-or-lt (b % 2 ^ 31 / 2 ^ 23) 132)
+pub magnitude-between : (b : ℕ) → b % 2 ^ 31 < 0x42d0_0000 → magnitude b < 151 * 2 ^ 32
+magnitude-between b h = ⊎-elim (λ l. omega (arith, magnitude-low b l)) (λ l. omega (arith, magnitude-high b (omega arith))) (le-or-lt (b % 2 ^ 31 / 2 ^ 23) 132)
 
-pub size-ordinary : (b : ℕ) → b % 2 ^ 31 < 0x42ae_0000 → size b < 126 * 2 ^ 32
-size-ordinary b h = ⊎-elim (λ l. omega (arith, size-low b l)) (λ l. omega (arith, size-high b (omega arith))) (le-or-lt (b % 2 ^ 31 / 2 ^ 23) 132)
+pub magnitude-ordinary : (b : ℕ) → b % 2 ^ 31 < 0x42ae_0000 → magnitude b < 126 * 2 ^ 32
+magnitude-ordinary b h = ⊎-elim (λ l. omega (arith, magnitude-low b l)) (λ l. omega (arith, magnitude-high b (omega arith))) (le-or-lt (b % 2 ^ 31 / 2 ^ 23) 132)
 
 -- ---- the power
 module _ (f : ℕ) (small : f < 2 ^ 24) where
@@ -75,12 +74,12 @@ power-lt j f h l =
     omega (arith, mul-le-mul {n₁ = entry j} {m₁ = 2 ^ 32 + f * c / 2 ^ 31} {n₂ = 2 ^ 31} {m₂ = 2 ^ 32 + 2 ^ 24} (omega (arith, d)) (omega (arith, product-lt f l)))
 
 -- ---- x log2 e, and its parts
-pub scaled-is : (b : ℕ) → scaled b ≡ signed (ltb b (2 ^ 31)) (size b)
+pub scaled-is : (b : ℕ) → scaled b ≡ signed (ltb b (2 ^ 31)) (magnitude b)
 unfolding scaled signed
 scaled-is b = refl
 
-pub mag-scaled : (b : ℕ) → mag (scaled b) ≤ size b
-mag-scaled b = rw (scaled-is b) (mag-signed (ltb b (2 ^ 31)) (size b))
+pub mag-scaled : (b : ℕ) → mag (scaled b) ≤ magnitude b
+mag-scaled b = rw (scaled-is b) (mag-signed (ltb b (2 ^ 31)) (magnitude b))
 
 pub raised-is : (b : ℕ) (k j : Parts) (y : ℕ) → k ≡ parts (scaled b) (2 ^ 24) → j ≡ parts (k .quotient) 256 → y ≡ power (j .remainder) (k .remainder)
     → record { exponent = j .quotient; size = y } ≡ raised b
@@ -89,7 +88,7 @@ raised-is b k j y e1 e2 e3 = rw (e3, e2, e1)
 
 module _ (b : ℕ) (h : b % 2 ^ 31 < 0x42d0_0000) where
   pub scaled-small : mag (scaled b) < 2 ^ 40
-  scaled-small = omega (arith, size-between b h, mag-scaled b)
+  scaled-small = omega (arith, magnitude-between b h, mag-scaled b)
 
   pub scaled-back : (r : ℤ) → r ≡ scaled b → toZ w64 (ofZ w64 r) ≡ scaled b
   scaled-back r e = rw e (back (scaled b) (omega (arith, scaled-small)))

@@ -1,11 +1,10 @@
 -- The last step of E: from the exponent and the power to the pattern, in the ordinary range and at the edges. Assumes nothing.
-use mathlib.Core.Path.{_≡_, refl, sym, _∙_, ap}
+use mathlib.Core.Path.{_≡_, refl, _∙_, ap}
 use mathlib.Core.Logic.{⊎-elim}
-use mathlib.Core.Bool.{Bool, true, false, cond}
 use Prim.Native.Nat.{ℕ, zero, suc, _+_, _-_, _*_, _/_, _%_, _^_, _≤_, _<_, min}
 use native.Mathlib.Omega.{arith}
 use borrow.Author.Tests.{le-ltb, lt-ltb}
-use lib.Dec.{T, ltb}
+use lib.Dec.{T}
 use lib.IntN.{ℤ, pos, negsuc, negℤ, natAbs, subℕ, _+ℤ_, _-ℤ_, +ℤ-idl}
 use lib.Signed.{mag, nonNeg}
 use mir.Syntax.{w64}
@@ -13,10 +12,10 @@ use mir.Val.{SFits, toZ, ofZ}
 use mir.Facts.{toZ-ofZ}
 use Rattle.single.proofs.Order.{le-or-lt}
 use Rattle.exponent.specs.Split.{parts}
-use Rattle.exponent.specs.Exp.{nearest, positive, size, scaled, power, raised, pattern, between, expBits}
+use Rattle.exponent.specs.Exp.{nearest, positive, magnitude, scaled, raised, between, expBits}
 use Rattle.exponent.specs.declared.Power.{Power}
 use Rattle.exponent.proofs.Signed.{back, mag-add, mag-negℤ, positive-is, remainder-lt}
-use Rattle.exponent.proofs.Ranges.{shift-le, size-between, size-ordinary, mag-scaled, power-lt}
+use Rattle.exponent.proofs.Ranges.{shift-le, magnitude-between, magnitude-ordinary, mag-scaled, power-lt}
 use Rattle.exponent.proofs.Guards.{at-positive, at-negative}
 
 -- ---- the exponent and the power of a pattern
@@ -73,14 +72,14 @@ unfolding nearest
 nearest-le y s h l = omega (arith, shift-le y 38 (s - 1) (omega arith))
 
 -- ---- what the code has of a pattern: p, the exponent and the power
-module _ (b : ℕ) (p : Power) (is : p ≡ raised b) where
+module _ (b : ℕ) {p : Power} (is : p ≡ raised b) where
   size-of-p : p .size < 2 ^ 63 + 2 ^ 56
   size-of-p = rw is (power-small b)
 
   -- between the guards
   module _ (h : b % 2 ^ 31 < 0x42d0_0000) where
     mag-e : mag (p .exponent) < 151
-    mag-e = rw is (omega (arith, mag-exponent b, mag-scaled b, size-between b h))
+    mag-e = rw is (omega (arith, mag-exponent b, mag-scaled b, magnitude-between b h))
 
     pub e-back : toZ w64 (ofZ w64 (p .exponent)) ≡ p .exponent
     e-back = back (p .exponent) (omega (arith, mag-e))
@@ -115,7 +114,7 @@ module _ (b : ℕ) (p : Power) (is : p ≡ raised b) where
   -- in the ordinary range
   module _ (h : b % 2 ^ 31 < 0x42ae_0000) where
     mag-o : mag (p .exponent) < 126
-    mag-o = rw is (omega (arith, mag-exponent b, mag-scaled b, size-ordinary b h))
+    mag-o = rw is (omega (arith, mag-exponent b, mag-scaled b, magnitude-ordinary b h))
 
     pub q-nonNeg : T (nonNeg (p .exponent +ℤ pos 126))
     q-nonNeg = sum-nonNeg (p .exponent) mag-o

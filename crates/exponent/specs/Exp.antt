@@ -1,6 +1,6 @@
 -- E, the exp of document 01 ('Tanh and exp'), in whole numbers, from pattern to pattern. Every rounding is one of two: a quotient `/`, which rounds
 -- down, or `nearest`. A 1 / 2^k in a comment is the unit of the number that it speaks of.
-use mathlib.Core.Bool.{Bool, cond, _&&_}
+use mathlib.Core.Bool.{cond, _&&_}
 use Prim.Native.Nat.{ℕ, _+_, _-_, _*_, _/_, _%_, _^_, min}
 use lib.Dec.{ltb, leb}
 use lib.IntN.{ℤ, pos, negsuc, negℤ, _+ℤ_}
@@ -18,9 +18,10 @@ unfoldable pub positive : ℤ → ℕ
 positive (pos n) = n
 positive (negsuc n) = 0
 
--- |x| log2 e in 1 / 2^32, of the pattern b of x: 198282496599 is the nearest to 2^37 log2 e. A zero or subnormal x gives 0, as m / 2^155 is small.
-unfoldable pub size : ℕ → ℕ
-size b =
+-- |x| log2 e in 1 / 2^32, rounded down, of the pattern b of x: e is its exponent's field, m its digits, and 198282496599 the nearest to 2^37 log2 e.
+-- A zero or a subnormal has no leading digit as m has it, and gives 0 all the same.
+unfoldable pub magnitude : ℕ → ℕ
+magnitude b =
     let a = b % 2 ^ 31 in
     let e = a / 2 ^ 23 in
     let m = 2 ^ 23 + a % 2 ^ 23 in
@@ -28,8 +29,8 @@ size b =
 
 -- x log2 e in 1 / 2^32
 unfoldable pub scaled : ℕ → ℤ
-unfolding size
-scaled b = cond (ltb b (2 ^ 31)) (pos (size b)) (negℤ (pos (size b)))
+unfolding magnitude
+scaled b = cond (ltb b (2 ^ 31)) (pos (magnitude b)) (negℤ (pos (magnitude b)))
 
 -- 2^(j / 256 + f / 2^32) in 1 / 2^62: entry j times 1 + w / 2^32, w from f by a quadratic that is exact at both ends
 unfoldable pub power : ℕ → ℕ → ℕ
@@ -38,14 +39,16 @@ power j f =
     let w = f * c / 2 ^ 31 in
     entry j * (2 ^ 32 + w)
 
--- The pattern of 2^e Y / 2^62, rounded once: with the exponent's field e + 126, or 0 and a shift where that is negative. From 2^128 up it is an infinity's.
+-- The pattern of 2^n Y / 2^62, rounded once: with the exponent's field n + 126 and the leading digit's 1 on top of it, or 0 and a longer shift where
+-- n + 126 is negative. From 2^128 up it is the infinity's.
 unfoldable pub pattern : ℤ → ℕ → ℕ
 unfolding nearest positive
-pattern e Y =
-    let q = e +ℤ pos 126 in
-    min (positive q * 2 ^ 23 + nearest Y (39 + positive (negℤ q))) 0x7f80_0000
+pattern n Y =
+    let q = n +ℤ pos 126 in
+    let r = positive q * 2 ^ 23 + nearest Y (39 + positive (negℤ q)) in
+    min r 0x7f80_0000
 
--- x log2 e split twice, by 2^24 into the whole part of x 256 log2 e and the fraction f, and that whole part by 256 into the exponent and the entry j
+-- x log2 e split twice: by 2^24 into the whole part of x 256 log2 e and its fraction f, and that whole part by 256 into the exponent and the entry j
 unfoldable pub raised : ℕ → Power
 unfolding parts scaled power
 raised b =
@@ -58,7 +61,7 @@ unfoldable pub between : ℕ → ℕ
 unfolding raised pattern
 between b = pattern (raised b .exponent) (raised b .size)
 
--- a NaN gives a NaN, 89 and above the infinity, -104 and below +0
+-- a NaN gives a NaN, 89 (42b20000) and above the infinity, -104 (42d00000 and the sign) and below +0
 unfoldable pub expBits : ℕ → ℕ
 unfolding between
 expBits b =
@@ -68,6 +71,7 @@ expBits b =
     (cond (leb (2 ^ 31) b && leb 0x42d0_0000 a) 0
     (between b)))
 
+-- exp of a float
 unfoldable pub E : Float → Float
 unfolding expBits
 E x = ofBits binary32 (expBits (toBits binary32 x))

@@ -1,15 +1,16 @@
 // exp, as nam-rs's activation.rs takes it from Rust's f32: here a table of 256 whole numbers and whole-number steps, equal bit for bit to the
 // definition E. Document 01, 'Tanh and exp'.
 //
-// The ordinary values, |x| below 87, take one path without a branch: exp asks for them with one comparison, and all others are left to seldom.
+// The ordinary values, |x| below 87, take one path without a branch: one comparison tells them, and all others are left to seldom. An array that is a
+// constant is made anew wherever it is read, so the table is lent: whoever loops keeps one and calls exp_by.
 use single::not_a_number;
 use single::to_bits;
 ghost use mathlib.Core.Path.{_≡_};
-ghost use Prim.Native.Nat.{_+_, _*_, _%_, _^_, _<_, _≤_};
+ghost use Prim.Native.Nat.{_+_, _*_, _%_, _^_, _<_};
 ghost use lib.Signed.{mag};
 ghost use lib.Ieee.{binary32, ofBits};
-ghost use Rattle.exponent.specs.Table.{entry};
-ghost use Rattle.exponent.specs.Exp.{nearest, positive, size, scaled, power, raised, between, expBits, E};
+ghost use Rattle.exponent.specs.Table.{table, entry};
+ghost use Rattle.exponent.specs.Exp.{nearest, positive, magnitude, scaled, power, raised, between, expBits, E};
 ghost use Rattle.exponent.specs.Split.{Splits};
 
 // T: entry j is the whole number nearest to 2^(30 + j/256).
@@ -284,7 +285,7 @@ pub struct Power {
     pub size: u64,
 }
 
-// whole by 2^bits.
+// whole by 2^bits. The shift copies the sign, so it rounds down for negative numbers too.
 fn split(whole: i64, bits: u32) -> Parts
     requires { ⌜ (mag whole < 2 ^ 40) × (bits < 32) ⌝ }
     ensures { λ r. ⌜ Splits whole (2 ^ bits) r ⌝ }
@@ -298,28 +299,35 @@ fn split(whole: i64, bits: u32) -> Parts
     }
 }
 
+// The table, to keep and lend.
+pub fn entries() -> [u32; 256]
+    ensures { λ r. ⌜ r ≡ table ⌝ }
+{
+    TABLE
+}
+
 // Entry j of the table.
-fn table_at(j: u64) -> u64
-    requires { ⌜ j < 256 ⌝ }
+fn entry_of(t: &[u32; 256], j: u64) -> u64
+    requires { ⌜ (now t ≡ table) × (j < 256) ⌝ }
     ensures { λ r. ⌜ r ≡ entry j ⌝ }
 {
-    TABLE[j as usize] as u64
+    t[j as usize] as u64
 }
 
 // 2^(j/256 + f/2^32) in 1 / 2^62.
-pub fn power_at(j: u64, f: u64) -> u64
-    requires { ⌜ (j < 256) × (f < 2 ^ 24) ⌝ }
+pub fn power_of(t: &[u32; 256], j: u64, f: u64) -> u64
+    requires { ⌜ (now t ≡ table) × (j < 256) × (f < 2 ^ 24) ⌝ }
     ensures { λ r. ⌜ r ≡ power j f ⌝ }
 {
     let c = 1488522236 + f * 2016986 / 16777216;
     let w = f * c / 2147483648;
-    table_at(j) * (4294967296 + w)
+    entry_of(t, j) * (4294967296 + w)
 }
 
 // |x| log2 e in 1 / 2^32. A shift by 63 leaves 0, as any longer one would.
-fn size_of(bits: u32) -> u64
+fn magnitude_of(bits: u32) -> u64
     requires { ⌜ bits % 2 ^ 31 < 0x42d0_0000 ⌝ }
-    ensures { λ r. ⌜ r ≡ size bits ⌝ }
+    ensures { λ r. ⌜ r ≡ magnitude bits ⌝ }
 {
     let a = (bits % 0x8000_0000) as u64;
     let m = 8388608 + a % 8388608;
@@ -335,19 +343,21 @@ fn scaled_of(bits: u32) -> i64
     ensures { λ r. ⌜ r ≡ scaled bits ⌝ }
 {
     let negative = (bits / 0x8000_0000) as i64;
-    (1 - 2 * negative) * (size_of(bits) as i64)
+    (1 - 2 * negative) * (magnitude_of(bits) as i64)
 }
 
 // e^x, before it is rounded to a float.
-fn raised_of(bits: u32) -> Power
-    requires { ⌜ bits % 2 ^ 31 < 0x42d0_0000 ⌝ }
+fn raised_of(t: &[u32; 256], bits: u32) -> Power
+    requires { ⌜ (now t ≡ table) × (bits % 2 ^ 31 < 0x42d0_0000) ⌝ }
     ensures { λ r. ⌜ r ≡ raised bits ⌝ }
 {
+    // by 2^24: the whole part of x 256 log2 e, and its fraction
     let k = split(scaled_of(bits), 24);
+    // by 256: the exponent, and the entry
     let j = split(k.quotient, 8);
     Power {
         exponent: j.quotient,
-        size: power_at(j.remainder, k.remainder),
+        size: power_of(t, j.remainder, k.remainder),
     }
 }
 
@@ -360,11 +370,11 @@ fn pattern_of(up: u64, down: u64, size: u64) -> u64
 }
 
 // |x| below 87: the result is no subnormal and no infinity.
-fn ordinary(bits: u32) -> f32
-    requires { ⌜ bits % 2 ^ 31 < 0x42ae_0000 ⌝ }
+fn ordinary(t: &[u32; 256], bits: u32) -> f32
+    requires { ⌜ (now t ≡ table) × (bits % 2 ^ 31 < 0x42ae_0000) ⌝ }
     ensures { λ r. ⌜ r ≡ ofBits binary32 (expBits bits) ⌝ }
 {
-    let p = raised_of(bits);
+    let p = raised_of(t, bits);
     let q = p.exponent + 126;
     f32::from_bits(pattern_of(q as u64, 0, p.size) as u32)
 }
@@ -380,11 +390,11 @@ fn positive_of(z: i64) -> u64
 }
 
 // The values between the guards, where the result may be a subnormal or overflow.
-fn edge(bits: u32) -> f32
-    requires { ⌜ bits % 2 ^ 31 < 0x42d0_0000 ⌝ }
+fn edge(t: &[u32; 256], bits: u32) -> f32
+    requires { ⌜ (now t ≡ table) × (bits % 2 ^ 31 < 0x42d0_0000) ⌝ }
     ensures { λ r. ⌜ r ≡ ofBits binary32 (between bits) ⌝ }
 {
-    let p = raised_of(bits);
+    let p = raised_of(t, bits);
     let q = p.exponent + 126;
     let r = pattern_of(positive_of(q), positive_of(0 - q), p.size);
     if 0x7f80_0000 < r {
@@ -394,7 +404,8 @@ fn edge(bits: u32) -> f32
 }
 
 // All other values: NaN, the guards, and the edges.
-fn seldom(bits: u32) -> f32
+fn seldom(t: &[u32; 256], bits: u32) -> f32
+    requires { ⌜ now t ≡ table ⌝ }
     ensures { λ r. ⌜ r ≡ ofBits binary32 (expBits bits) ⌝ }
 {
     let a = bits % 0x8000_0000;
@@ -405,21 +416,30 @@ fn seldom(bits: u32) -> f32
         if 0x42b2_0000 <= a {
             return f32::from_bits(0x7f80_0000);
         }
-        return edge(bits);
+    } else {
+        if 0x42d0_0000 <= a {
+            return f32::from_bits(0);
+        }
     }
-    if 0x42d0_0000 <= a {
-        return f32::from_bits(0);
-    }
-    edge(bits)
+    edge(t, bits)
 }
 
-// e^x, by E.
-pub fn exp(x: f32) -> f32
+// E of x, with the table lent.
+pub fn exp_by(t: &[u32; 256], x: f32) -> f32
+    requires { ⌜ now t ≡ table ⌝ }
     ensures { λ r. ⌜ r ≡ E x ⌝ }
 {
     let bits = to_bits(x);
     if bits % 0x8000_0000 < 0x42ae_0000 {
-        return ordinary(bits);
+        return ordinary(t, bits);
     }
-    seldom(bits)
+    seldom(t, bits)
+}
+
+// E of x, where one value is wanted: it makes the table for it.
+pub fn exp(x: f32) -> f32
+    ensures { λ r. ⌜ r ≡ E x ⌝ }
+{
+    let t = entries();
+    exp_by(&t, x)
 }

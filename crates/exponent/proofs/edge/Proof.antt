@@ -1,66 +1,74 @@
-use lib.Ieee.{nanBits}
-use Rattle.exponent.proofs.Rounding.{edge-is}
-use lib.Ieee.{ofBits}
+-- `edge` is E between the guards: the code's two positive parts are the definition's, and the last test is its min. Assumes nothing.
+use lib.Ieee.{ofBits, nanBits, binary32}
 use Rattle.single.proofs.Nan.{no-nan-pattern}
-use Rattle.exponent.proofs.Rounding.{e-back, q-fits, q-back, minus-fits, minus-back, up-small, down-small, between-is}
-use mathlib.Core.Path.{_≡_, refl, sym, _∙_, ap}
-use Prim.Native.Nat.{ℕ, _+_, _*_, _-_, _/_, _%_, _≤_, _<_}
+use Rattle.exponent.proofs.Rounding.{e-back, q-fits, q-back, minus-fits, minus-back, up-small, down-small, edge-is}
+use mathlib.Core.Path.{ap}
 use native.Mathlib.Omega.{arith}
-use lib.ListN.{length, set, take, drop, length-set}
-use lib.Ieee.{Float, nan, binary32, add, mul}
 use borrow.Author.Needs.{needs}
 use Rattle.exponent.proofs.edge.Statement.{statement}
 use Rattle.exponent.proofs.edge.Tie as tie
-use Rattle.exponent.proofs.edge.Reads as reads
-use Rattle.exponent.proofs.edge.Lts as lts
-use Rattle.exponent.proofs.pattern_of.Reads as pattern-of-reads
-use Rattle.exponent.proofs.positive_of.Reads as positive-of-reads
-use Rattle.exponent.proofs.raised_of.Reads as raised-of-reads
 
--- src/lib.rt:387:9
 raised-of-requires : tie.Need-raised-of-requires
 raised-of-requires c κs = search needs
 
--- src/lib.rt:388:13
 add-q : tie.Need-add-q
-add-q c = rw (e-back (c .before .before .before .args .bits) (c .before .before .raised-of .result) (c .before .before .raised-of .ensures) (c .before .before .before .pre)) (q-fits (c .before .before .before .args .bits) (c .before .before .raised-of .result) (c .before .before .raised-of .ensures) (c .before .before .before .pre))
+add-q c =
+    let b = c .before .before .before .args .bits in
+    let is = c .before .before .raised-of .ensures in
+    let h = c .before .before .before .pre .1 in
+    rw (e-back b is h) (q-fits b is h)
 
--- src/lib.rt:389:24
 positive-of-requires : tie.Need-positive-of-requires
 positive-of-requires c κs = search needs
 
--- src/lib.rt:389:52
 sub-positive-of : tie.Need-sub-positive-of
-sub-positive-of c = rw (e-back (c .before .before .before .before .args .bits) (c .before .before .before .raised-of .result) (c .before .before .before .raised-of .ensures) (c .before .before .before .before .pre), q-back (c .before .before .before .before .args .bits) (c .before .before .before .raised-of .result) (c .before .before .before .raised-of .ensures) (c .before .before .before .before .pre)) (minus-fits (c .before .before .before .before .args .bits) (c .before .before .before .raised-of .result) (c .before .before .before .raised-of .ensures) (c .before .before .before .before .pre))
+sub-positive-of c =
+    let b = c .before .before .before .before .args .bits in
+    let is = c .before .before .before .raised-of .ensures in
+    let h = c .before .before .before .before .pre .1 in
+    rw (e-back b is h, q-back b is h) (minus-fits b is h)
 
--- src/lib.rt:389:40
 positive-of-requires-2 : tie.Need-positive-of-requires-2
 positive-of-requires-2 c κs = search needs
 
--- src/lib.rt:389:9
 pattern-of-requires : tie.Need-pattern-of-requires
-pattern-of-requires c κs = (omega (arith, rw (e-back (c .before .before .before .before .before .args .bits) (c .before .before .before .before .raised-of .result) (c .before .before .before .before .raised-of .ensures) (c .before .before .before .before .before .pre), q-back (c .before .before .before .before .before .args .bits) (c .before .before .before .before .raised-of .result) (c .before .before .before .before .raised-of .ensures) (c .before .before .before .before .before .pre)) at (c .before .positive-of .ensures), up-small (c .before .before .before .before .before .args .bits) (c .before .before .before .before .raised-of .result) (c .before .before .before .before .raised-of .ensures) (c .before .before .before .before .before .pre)), omega (arith, rw (e-back (c .before .before .before .before .before .args .bits) (c .before .before .before .before .raised-of .result) (c .before .before .before .before .raised-of .ensures) (c .before .before .before .before .before .pre), q-back (c .before .before .before .before .before .args .bits) (c .before .before .before .before .raised-of .result) (c .before .before .before .before .raised-of .ensures) (c .before .before .before .before .before .pre), minus-back (c .before .before .before .before .before .args .bits) (c .before .before .before .before .raised-of .result) (c .before .before .before .before .raised-of .ensures) (c .before .before .before .before .before .pre)) at (c .positive-of2 .ensures), down-small (c .before .before .before .before .before .args .bits) (c .before .before .before .before .raised-of .result) (c .before .before .before .before .raised-of .ensures) (c .before .before .before .before .before .pre)))
+pattern-of-requires c κs =
+    let b = c .before .before .before .before .before .args .bits in
+    let is = c .before .before .before .before .raised-of .ensures in
+    let h = c .before .before .before .before .before .pre .1 in
+    let up = rw (e-back b is h, q-back b is h) at (c .before .positive-of .ensures) in
+    let down = rw (e-back b is h, q-back b is h, minus-back b is h) at (c .positive-of2 .ensures) in
+    (omega (arith, up-small b is h), omega (arith, down-small b is h))
 
--- src/lib.rt:391:16
 float-from-bits-result : tie.Need-float-from-bits-result
 unfolding nanBits
 float-from-bits-result c = tt
 
--- src/lib.rt:391:9
 returns : tie.Need-returns
-returns c = let e = edge-is (c .before .before .before .before .before .before .before .args .bits) (c .before .before .before .before .before .before .raised-of .result) (c .before .before .before .before .before .before .raised-of .ensures) (c .before .before .before .before .before .before .before .pre) (c .before .before .before .positive-of .result) (c .before .before .positive-of2 .result) (c .before .pattern-of .result) (rw (e-back (c .before .before .before .before .before .before .before .args .bits) (c .before .before .before .before .before .before .raised-of .result) (c .before .before .before .before .before .before .raised-of .ensures) (c .before .before .before .before .before .before .before .pre), q-back (c .before .before .before .before .before .before .before .args .bits) (c .before .before .before .before .before .before .raised-of .result) (c .before .before .before .before .before .before .raised-of .ensures) (c .before .before .before .before .before .before .before .pre)) at (c .before .before .before .positive-of .ensures)) (rw (e-back (c .before .before .before .before .before .before .before .args .bits) (c .before .before .before .before .before .before .raised-of .result) (c .before .before .before .before .before .before .raised-of .ensures) (c .before .before .before .before .before .before .before .pre), q-back (c .before .before .before .before .before .before .before .args .bits) (c .before .before .before .before .before .before .raised-of .result) (c .before .before .before .before .before .before .raised-of .ensures) (c .before .before .before .before .before .before .before .pre), minus-back (c .before .before .before .before .before .before .before .args .bits) (c .before .before .before .before .before .before .raised-of .result) (c .before .before .before .before .before .before .raised-of .ensures) (c .before .before .before .before .before .before .before .pre)) at (c .before .before .positive-of2 .ensures)) (c .before .pattern-of .ensures) in ap (ofBits binary32) (omega arith)
+returns c =
+    let b = c .before .before .before .before .before .before .before .args .bits in
+    let is = c .before .before .before .before .before .before .raised-of .ensures in
+    let h = c .before .before .before .before .before .before .before .pre .1 in
+    let up = rw (e-back b is h, q-back b is h) at (c .before .before .before .positive-of .ensures) in
+    let down = rw (e-back b is h, q-back b is h, minus-back b is h) at (c .before .before .positive-of2 .ensures) in
+    let e = edge-is b is h (c .before .before .before .positive-of .result) (c .before .before .positive-of2 .result) (c .before .pattern-of .result) up down (c .before .pattern-of .ensures) in
+    ap (ofBits binary32) (omega arith)
 
--- src/lib.rt:393:20
 cast-result : tie.Need-cast-result
 cast-result c = search needs
 
--- src/lib.rt:393:5
 float-from-bits-result-2 : tie.Need-float-from-bits-result-2
 float-from-bits-result-2 c = no-nan-pattern _ (omega arith)
 
--- src/lib.rt:383:1
 returns-2 : tie.Need-returns-2
-returns-2 c = let e = edge-is (c .before .before .before .before .before .before .before .args .bits) (c .before .before .before .before .before .before .raised-of .result) (c .before .before .before .before .before .before .raised-of .ensures) (c .before .before .before .before .before .before .before .pre) (c .before .before .before .positive-of .result) (c .before .before .positive-of2 .result) (c .before .pattern-of .result) (rw (e-back (c .before .before .before .before .before .before .before .args .bits) (c .before .before .before .before .before .before .raised-of .result) (c .before .before .before .before .before .before .raised-of .ensures) (c .before .before .before .before .before .before .before .pre), q-back (c .before .before .before .before .before .before .before .args .bits) (c .before .before .before .before .before .before .raised-of .result) (c .before .before .before .before .before .before .raised-of .ensures) (c .before .before .before .before .before .before .before .pre)) at (c .before .before .before .positive-of .ensures)) (rw (e-back (c .before .before .before .before .before .before .before .args .bits) (c .before .before .before .before .before .before .raised-of .result) (c .before .before .before .before .before .before .raised-of .ensures) (c .before .before .before .before .before .before .before .pre), q-back (c .before .before .before .before .before .before .before .args .bits) (c .before .before .before .before .before .before .raised-of .result) (c .before .before .before .before .before .before .raised-of .ensures) (c .before .before .before .before .before .before .before .pre), minus-back (c .before .before .before .before .before .before .before .args .bits) (c .before .before .before .before .before .before .raised-of .result) (c .before .before .before .before .before .before .raised-of .ensures) (c .before .before .before .before .before .before .before .pre)) at (c .before .before .positive-of2 .ensures)) (c .before .pattern-of .ensures) in ap (ofBits binary32) (omega arith)
+returns-2 c =
+    let b = c .before .before .before .before .before .before .before .args .bits in
+    let is = c .before .before .before .before .before .before .raised-of .ensures in
+    let h = c .before .before .before .before .before .before .before .pre .1 in
+    let up = rw (e-back b is h, q-back b is h) at (c .before .before .before .positive-of .ensures) in
+    let down = rw (e-back b is h, q-back b is h, minus-back b is h) at (c .before .before .positive-of2 .ensures) in
+    let e = edge-is b is h (c .before .before .before .positive-of .result) (c .before .before .positive-of2 .result) (c .before .pattern-of .result) up down (c .before .pattern-of .ensures) in
+    ap (ofBits binary32) (omega arith)
 
 pub edge-spec : {M : Type 1} → statement M
 edge-spec =

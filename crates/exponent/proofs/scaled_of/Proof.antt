@@ -1,49 +1,53 @@
+-- `scaled_of` is the definition's signed number: the factor is 1 or -1 by the pattern's sign. Assumes nothing.
 use lib.Dec.{ltb}
-use Rattle.exponent.proofs.Signed.{signed}
+use Rattle.exponent.proofs.Signed.{signed, back, factor-fits, signed-is, mag-signed}
 use lib.IntN.{pos}
 use Rattle.exponent.specs.Exp.{scaled}
-use Rattle.exponent.proofs.Ranges.{size-between}
-use Rattle.exponent.proofs.Signed.{back, factor-fits, signed-is, mag-signed}
-use mathlib.Core.Path.{_≡_, refl, sym, _∙_, ap}
-use Prim.Native.Nat.{ℕ, _+_, _*_, _-_, _/_, _%_, _≤_, _<_}
+use Rattle.exponent.proofs.Ranges.{magnitude-between}
+use mathlib.Core.Path.{_∙_}
+use Prim.Native.Nat.{_/_}
 use native.Mathlib.Omega.{arith}
-use lib.ListN.{length, set, take, drop, length-set}
-use lib.Ieee.{Float, nan, binary32, add, mul}
 use borrow.Author.Needs.{needs}
 use Rattle.exponent.proofs.scaled_of.Statement.{statement}
 use Rattle.exponent.proofs.scaled_of.Tie as tie
-use Rattle.exponent.proofs.scaled_of.Reads as reads
-use Rattle.exponent.proofs.scaled_of.Lts as lts
-use Rattle.exponent.proofs.size_of.Reads as size-of-reads
 
--- src/lib.rt:337:20
 cast-negative : tie.Need-cast-negative
 cast-negative c = search needs
 
--- src/lib.rt:338:10
 mul-result : tie.Need-mul-result
 mul-result c = rw (back (pos (c .args .bits / 2147483648)) (omega arith)) (record { sfits = omega arith })
 
--- src/lib.rt:338:6
 sub-result : tie.Need-sub-result
 sub-result c = factor-fits (c .args .bits / 2147483648) (omega arith)
 
--- src/lib.rt:338:27
-size-of-requires : tie.Need-size-of-requires
-size-of-requires c κs = search needs
+magnitude-of-requires : tie.Need-magnitude-of-requires
+magnitude-of-requires c κs = search needs
 
--- src/lib.rt:338:27
 cast-result : tie.Need-cast-result
-cast-result c = record { sfits = omega (arith, c .size-of .ensures, size-between (c .before .args .bits) (c .before .pre)) }
+cast-result c =
+    let b = c .before .args .bits in
+    let u = c .magnitude-of .result in
+    let e = c .magnitude-of .ensures in
+    let s = magnitude-between b (c .before .pre) in
+    record { sfits = omega arith }
 
--- src/lib.rt:338:5
 mul-result-2 : tie.Need-mul-result-2
-mul-result-2 c = rw (signed-is (c .before .args .bits) (c .size-of .result) (c .before .fits .bits .fits) (omega (arith, c .size-of .ensures, size-between (c .before .args .bits) (c .before .pre)))) (record { sfits = omega (arith, c .size-of .ensures, size-between (c .before .args .bits) (c .before .pre), mag-signed (ltb (c .before .args .bits) 2147483648) (c .size-of .result)) })
+mul-result-2 c =
+    let b = c .before .args .bits in
+    let u = c .magnitude-of .result in
+    let e = c .magnitude-of .ensures in
+    let s = magnitude-between b (c .before .pre) in
+    rw (signed-is b u (c .before .fits .bits .fits) (omega arith)) (record { sfits = omega (arith, mag-signed (ltb b 2147483648) u) })
 
--- src/lib.rt:333:1
 returns : tie.Need-returns
 unfolding scaled signed
-returns c = rw (signed-is (c .before .args .bits) (c .size-of .result) (c .before .fits .bits .fits) (omega (arith, c .size-of .ensures, size-between (c .before .args .bits) (c .before .pre)))) (back (signed (ltb (c .before .args .bits) 2147483648) (c .size-of .result)) (omega (arith, c .size-of .ensures, size-between (c .before .args .bits) (c .before .pre), mag-signed (ltb (c .before .args .bits) 2147483648) (c .size-of .result))) ∙ rw (c .size-of .ensures))
+returns c =
+    let b = c .before .args .bits in
+    let u = c .magnitude-of .result in
+    let e = c .magnitude-of .ensures in
+    let s = magnitude-between b (c .before .pre) in
+    rw (signed-is b u (c .before .fits .bits .fits) (omega arith))
+    (back (signed (ltb b 2147483648) u) (omega (arith, mag-signed (ltb b 2147483648) u)) ∙ rw e)
 
 pub scaled-of-spec : {M : Type 1} → statement M
 scaled-of-spec =
@@ -52,7 +56,7 @@ scaled-of-spec =
     cast-negative
     mul-result
     sub-result
-    size-of-requires
+    magnitude-of-requires
     cast-result
     mul-result-2
     returns)

@@ -1,62 +1,40 @@
+-- `seldom` is E of any pattern: each return is one rule of the definition, by proofs/Guards.antt. Assumes nothing.
+use mathlib.Core.Logic.{⊎-elim}
 use lib.Dec.{lit<}
-use Rattle.exponent.specs.Exp.{expBits}
 use Rattle.single.proofs.Nan.{nan-pattern}
-use lib.Ieee.{ofBits, nanBits}
+use lib.Ieee.{ofBits, nanBits, binary32}
 use Rattle.exponent.proofs.Guards.{at-nan, at-high, at-low, at-positive, at-negative}
-use mathlib.Core.Path.{_≡_, refl, sym, _∙_, ap}
-use Prim.Native.Nat.{ℕ, _+_, _*_, _-_, _/_, _%_, _≤_, _<_}
+use mathlib.Core.Path.{sym, _∙_, ap}
 use native.Mathlib.Omega.{arith}
-use lib.ListN.{length, set, take, drop, length-set}
-use lib.Ieee.{Float, nan, binary32, add, mul}
 use borrow.Author.Needs.{needs}
 use Rattle.exponent.proofs.seldom.Statement.{statement}
 use Rattle.exponent.proofs.seldom.Tie as tie
-use Rattle.exponent.proofs.seldom.Reads as reads
-use Rattle.exponent.proofs.seldom.Lts as lts
-use Rattle.exponent.proofs.edge.Reads as edge-reads
-use Rattle.single.proofs.not_a_number.Reads as not-a-number-reads
 
--- src/lib.rt:397:9
 not-a-number-requires : tie.Need-not-a-number-requires
 not-a-number-requires c κs = search needs
 
--- src/lib.rt:397:9
 returns : tie.Need-returns
 returns c = c .not-a-number .ensures ∙ sym (nan-pattern 0x7fc0_0000 (lit< tt)) ∙ ap (ofBits binary32) (sym (at-nan (c .before .before .args .bits) (c .before .if1 .taken)))
 
--- src/lib.rt:401:20
 float-from-bits-result : tie.Need-float-from-bits-result
 unfolding nanBits
 float-from-bits-result c = tt
 
--- src/lib.rt:401:13
 returns-2 : tie.Need-returns-2
 returns-2 c = ap (ofBits binary32) (sym (at-high (c .before .before .before .args .bits) (c .before .before .if1 .left) (c .before .if2 .taken) (c .if3 .taken)))
 
--- src/lib.rt:403:9
-edge-requires : tie.Need-edge-requires
-edge-requires c κs = search needs
-
--- src/lib.rt:403:9
-returns-3 : tie.Need-returns-3
-returns-3 c = c .edge .ensures ∙ ap (ofBits binary32) (sym (at-positive (c .before .before .before .before .args .bits) (c .before .before .if2 .taken) (c .before .if3 .left)))
-
--- src/lib.rt:406:16
 float-from-bits-result-2 : tie.Need-float-from-bits-result-2
 unfolding nanBits
 float-from-bits-result-2 c = tt
 
--- src/lib.rt:406:9
+returns-3 : tie.Need-returns-3
+returns-3 c = ap (ofBits binary32) (sym (at-low (c .before .before .before .args .bits) (c .before .before .if1 .left) (c .before .if2 .left) (c .if4 .taken)))
+
+edge-requires : tie.Need-edge-requires
+edge-requires c κs = (c .before .before .pre, ⊎-elim (λ w. omega arith) (λ w. omega arith) (c .if2 .came))
+
 returns-4 : tie.Need-returns-4
-returns-4 c = ap (ofBits binary32) (sym (at-low (c .before .before .before .args .bits) (c .before .before .if1 .left) (c .before .if2 .left) (c .if4 .taken)))
-
--- src/lib.rt:408:5
-edge-requires-2 : tie.Need-edge-requires-2
-edge-requires-2 c κs = search needs
-
--- src/lib.rt:392:1
-returns-5 : tie.Need-returns-5
-returns-5 c = c .edge2 .ensures ∙ ap (ofBits binary32) (sym (at-negative (c .before .before .before .before .args .bits) (c .before .before .if2 .left) (c .before .if4 .left)))
+returns-4 c = c .edge .ensures ∙ ap (ofBits binary32) (sym (⊎-elim (λ w. at-positive (c .before .before .before .args .bits) (w .0 .taken) (w .1 .left)) (λ w. at-negative (c .before .before .before .args .bits) (w .0 .left) (w .1 .left)) (c .before .if2 .came)))
 
 pub seldom-spec : {M : Type 1} → statement M
 seldom-spec =
@@ -66,9 +44,7 @@ seldom-spec =
     returns
     float-from-bits-result
     returns-2
-    edge-requires
-    returns-3
     float-from-bits-result-2
-    returns-4
-    edge-requires-2
-    returns-5)
+    returns-3
+    edge-requires
+    returns-4)

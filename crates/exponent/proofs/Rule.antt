@@ -1,5 +1,4 @@
 -- The table's rule, computed once over all entries and carried to each index, and the bounds that the code leans on. Assumes nothing.
-use mathlib.Core.Path.{_≡_, refl}
 use mathlib.Core.Bool.{Bool}
 use Prim.Native.Nat.{ℕ, _+_, _-_, _*_, _^_, _<_}
 use lib.Dec.{T}
