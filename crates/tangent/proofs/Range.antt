@@ -9,12 +9,13 @@ use native.Mathlib.Omega.{arith}
 use borrow.Author.Tests.{le-ltb, lt-ltb}
 use lib.Dec.{T, leb, leb→le}
 use lib.Pow.{shr-mono}
-use lib.IntN.{ℤ, pos, negsuc, negℤ, subℕ, _+ℤ_, _*ℤ_}
+use lib.IntN.{ℤ, pos, negsuc, negℤ, natAbs, subℕ, _+ℤ_, _*ℤ_}
 use lib.Signed.{shrZ, nonNeg}
 use lib.Ieee.Fits.{and-l, and-r}
 use Rattle.lists.proofs.Every.{every, at-every}
 use Rattle.single.proofs.Order.{le-or-lt}
 use Rattle.exponent.specs.Exp.{positive}
+use Rattle.exponent.proofs.Signed.{positive-is}
 use Rattle.tangent.specs.Tanh.{number, step, slopeAt, valueAt}
 
 -- ---- the order of signed numbers: z is over z - under z
@@ -153,3 +154,7 @@ module _ (i d : ℕ) (row : i < 65) (place : d < 2 ^ 21) where
   value-le =
       bounded value-positive (quintic-le (λ _. d) _ (to-end (j * 2 ^ 15) (j * 2 ^ 15 + 2 ^ 15) d (omega arith) (omega arith)) i)
       (leb→le _ _ (and-r (nonNeg (least i j)) (leb (over (most i j)) (2 ^ 31 + 95)) piece))
+
+  pub value-is : natAbs (step d 24 (number i 0) (slopeAt i d)) ≡ valueAt i d
+  unfolding valueAt
+  value-is = positive-is (step d 24 (number i 0) (slopeAt i d)) value-positive

@@ -10,7 +10,7 @@ ghost use Prim.Native.Nat.{_+_, _%_, _^_, _≤_, _<_, min};
 ghost use lib.Signed.{mag};
 ghost use lib.Ieee.{binary32, ofBits};
 ghost use Rattle.tangent.specs.Rows.{rows};
-ghost use Rattle.tangent.specs.Tanh.{low, high, step, valueAt, between, tanhBits, Tanh};
+ghost use Rattle.tangent.specs.Tanh.{low, high, number, step, valueAt, between, tanhBits, Tanh};
 
 mod numbers;
 
@@ -21,25 +21,32 @@ pub fn rows_of() -> [i32; 390]
     numbers::ROWS
 }
 
-// One number of a row, and d / 2^bits of what the numbers behind it come to.
-fn step_of(d: u64, bits: u32, c: i32, v: i64) -> i64
-    requires { ⌜ (d < 2 ^ 21) × (21 ≤ bits) × (bits < 32) × (mag v < 2 ^ 34) ⌝ }
-    ensures { λ r. ⌜ (r ≡ step d bits c v) × (mag r ≤ mag v + 2 ^ 31) ⌝ }
+// Number k of row i.
+fn number_of(t: &[i32; 390], i: usize, k: usize) -> i64
+    requires { ⌜ (now t ≡ rows) × (i < 65) × (k < 6) ⌝ }
+    ensures { λ r. ⌜ (r ≡ number i k) × (mag r < 2 ^ 31) ⌝ }
 {
-    (c as i64) + ((v * (d as i64)) >> bits)
+    t[6 * i + k] as i64
 }
 
-// The quintic of row i at d.
+// A number c of a row, and d / 2^bits of what the numbers behind it come to.
+fn step_of(d: u64, bits: u32, c: i64, v: i64) -> i64
+    requires { ⌜ (d < 2 ^ 21) × (21 ≤ bits) × (bits < 32) × (mag c < 2 ^ 31) × (mag v < 2 ^ 34) ⌝ }
+    ensures { λ r. ⌜ (r ≡ step d bits c v) × (mag r ≤ mag v + 2 ^ 31) ⌝ }
+{
+    c + ((v * (d as i64)) >> bits)
+}
+
+// The quintic of row i at d. It is never negative.
 fn value_of(t: &[i32; 390], i: usize, d: u64) -> u64
     requires { ⌜ (now t ≡ rows) × (i < 65) × (d < 2 ^ 21) ⌝ }
     ensures { λ r. ⌜ r ≡ valueAt i d ⌝ }
 {
-    let row = 6 * i;
-    let v4 = step_of(d, 21, t[row + 4], t[row + 5] as i64);
-    let v3 = step_of(d, 21, t[row + 3], v4);
-    let v2 = step_of(d, 21, t[row + 2], v3);
-    let v1 = step_of(d, 21, t[row + 1], v2);
-    step_of(d, 24, t[row], v1) as u64
+    let v4 = step_of(d, 21, number_of(t, i, 4), number_of(t, i, 5));
+    let v3 = step_of(d, 21, number_of(t, i, 3), v4);
+    let v2 = step_of(d, 21, number_of(t, i, 2), v3);
+    let v1 = step_of(d, 21, number_of(t, i, 1), v2);
+    step_of(d, 24, number_of(t, i, 0), v1) as u64
 }
 
 fn lesser(a: u64, b: u64) -> u64

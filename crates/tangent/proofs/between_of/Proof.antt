@@ -1,63 +1,47 @@
-use mathlib.Core.Path.{_≡_, refl, sym, _∙_, ap}
-use Prim.Native.Nat.{ℕ, _+_, _*_, _-_, _/_, _%_, _≤_, _<_}
+-- `between_of` is the definition's result between the guards, by proofs/Guards.antt; it fits, since it is at most the pattern of 1. Assumes nothing.
 use native.Mathlib.Omega.{arith}
-use lib.ListN.{length, set, take, drop, length-set}
-use lib.Ieee.{Float, nan, binary32, add, mul}
+use Rattle.tangent.proofs.Guards.{y-le, between-le, between-is}
 use borrow.Author.Needs.{needs}
 use Rattle.tangent.proofs.between_of.Statement.{statement}
 use Rattle.tangent.proofs.between_of.Tie as tie
-use Rattle.tangent.proofs.between_of.Reads as reads
-use Rattle.tangent.proofs.between_of.Lts as lts
-use Rattle.tangent.proofs.lesser.Reads as lesser-reads
-use Rattle.tangent.proofs.value_of.Reads as value-of-reads
 
--- src/lib.rt:56:14
 sub-i : tie.Need-sub-i
-sub-i c = ?
+sub-i c = search needs
 
--- src/lib.rt:57:25
 cast-value-of : tie.Need-cast-value-of
-cast-value-of c = ?
+cast-value-of c = search needs
 
--- src/lib.rt:57:37
 cast-value-of-2 : tie.Need-cast-value-of-2
-cast-value-of-2 c = ?
+cast-value-of-2 c = search needs
 
--- src/lib.rt:57:9
 value-of-requires : tie.Need-value-of-requires
-value-of-requires c κs = ?
+value-of-requires c κs = search needs
 
--- src/lib.rt:58:17
 lesser-requires : tie.Need-lesser-requires
-lesser-requires c κs = ?
+lesser-requires c κs = search needs
 
--- src/lib.rt:58:17
 sub-field : tie.Need-sub-field
-sub-field c = ?
+sub-field c = search needs
 
--- src/lib.rt:59:29
 add-lesser : tie.Need-add-lesser
-add-lesser c = ?
+add-lesser c = record { fits = omega (arith, c .before .value-of .ensures, y-le (c .before .before .args .a) (c .before .before .pre .1) (c .before .before .pre .2)) }
 
--- src/lib.rt:59:18
 lesser-requires-2 : tie.Need-lesser-requires-2
-lesser-requires-2 c κs = ?
+lesser-requires-2 c κs = search needs
 
--- src/lib.rt:60:6
 mul-result : tie.Need-mul-result
-mul-result c = ?
+mul-result c = search needs
 
--- src/lib.rt:60:6
 add-result : tie.Need-add-result
-add-result c = ?
+add-result c = search needs
 
--- src/lib.rt:60:5
 cast-result : tie.Need-cast-result
-cast-result c = ?
+cast-result c =
+    let e = between-is (c .before .before .before .args .a) _ _ _ (c .before .before .value-of .ensures) (c .before .lesser .ensures) (c .lesser2 .ensures) in
+    record { fits = omega (arith, e, between-le (c .before .before .before .args .a) (c .before .before .before .pre .1) (c .before .before .before .pre .2)) }
 
--- src/lib.rt:52:1
 returns : tie.Need-returns
-returns c = ?
+returns c = between-is (c .before .before .before .args .a) _ _ _ (c .before .before .value-of .ensures) (c .before .lesser .ensures) (c .lesser2 .ensures)
 
 pub between-of-spec : {M : Type 1} → statement M
 between-of-spec =

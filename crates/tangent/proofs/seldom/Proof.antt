@@ -1,38 +1,31 @@
-use mathlib.Core.Path.{_≡_, refl, sym, _∙_, ap}
-use Prim.Native.Nat.{ℕ, _+_, _*_, _-_, _/_, _%_, _≤_, _<_}
+-- `seldom` is Tanh from 10 up: each return is one rule of the definition, by proofs/Guards.antt. Assumes nothing.
+use mathlib.Core.Path.{sym, _∙_, ap}
 use native.Mathlib.Omega.{arith}
-use lib.ListN.{length, set, take, drop, length-set}
-use lib.Ieee.{Float, nan, binary32, add, mul}
+use lib.Dec.{lit<}
+use lib.Ieee.{binary32, ofBits}
+use Rattle.single.proofs.Nan.{nan-pattern, no-nan-pattern}
+use Rattle.tangent.proofs.Guards.{at-nan, at-high}
 use borrow.Author.Needs.{needs}
 use Rattle.tangent.proofs.seldom.Statement.{statement}
 use Rattle.tangent.proofs.seldom.Tie as tie
-use Rattle.tangent.proofs.seldom.Reads as reads
-use Rattle.tangent.proofs.seldom.Lts as lts
-use Rattle.single.proofs.not_a_number.Reads as not-a-number-reads
 
--- src/lib.rt:70:9
 not-a-number-requires : tie.Need-not-a-number-requires
-not-a-number-requires c κs = ?
+not-a-number-requires c κs = search needs
 
--- src/lib.rt:70:9
 returns : tie.Need-returns
-returns c = ?
+returns c = c .not-a-number .ensures ∙ sym (nan-pattern 0x7fc0_0000 (lit< tt)) ∙ ap (ofBits binary32) (sym (at-nan (c .before .before .args .b) (c .before .if1 .taken)))
 
--- src/lib.rt:72:20
 sub-result : tie.Need-sub-result
-sub-result c = ?
+sub-result c = search needs
 
--- src/lib.rt:72:20
 add-result : tie.Need-add-result
-add-result c = ?
+add-result c = search needs
 
--- src/lib.rt:72:5
 float-from-bits-result : tie.Need-float-from-bits-result
-float-from-bits-result c = ?
+float-from-bits-result c = no-nan-pattern _ (omega arith)
 
--- src/lib.rt:64:1
 returns-2 : tie.Need-returns-2
-returns-2 c = ?
+returns-2 c = ap (ofBits binary32) (sym (at-high (c .before .args .b) (c .if1 .left) (c .before .pre)))
 
 pub seldom-spec : {M : Type 1} → statement M
 seldom-spec =

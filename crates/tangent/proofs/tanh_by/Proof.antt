@@ -1,52 +1,46 @@
-use mathlib.Core.Path.{_≡_, refl, sym, _∙_, ap}
-use Prim.Native.Nat.{ℕ, _+_, _*_, _-_, _/_, _%_, _≤_, _<_}
+-- `tanh_by` is Tanh: two comparisons part the ways, and each is Tanh of the pattern, by proofs/Guards.antt. Assumes nothing.
+use mathlib.Core.Path.{sym, _∙_, ap, subst}
 use native.Mathlib.Omega.{arith}
-use lib.ListN.{length, set, take, drop, length-set}
-use lib.Ieee.{Float, nan, binary32, add, mul}
+use lib.Dec.{T}
+use lib.Ieee.{binary32, ofBits, toBits}
+use lib.Ieee.Bits.{ofBits-toBits}
+use Rattle.single.proofs.Nan.{no-nan-pattern}
+use Rattle.tangent.specs.Tanh.{Tanh}
+use Rattle.tangent.proofs.Guards.{at-small, at-between, between-le}
 use borrow.Author.Needs.{needs}
 use Rattle.tangent.proofs.tanh_by.Statement.{statement}
 use Rattle.tangent.proofs.tanh_by.Tie as tie
-use Rattle.tangent.proofs.tanh_by.Reads as reads
-use Rattle.tangent.proofs.tanh_by.Lts as lts
-use Rattle.single.proofs.to_bits.Reads as to-bits-reads
-use Rattle.tangent.proofs.between_of.Reads as between-of-reads
-use Rattle.tangent.proofs.seldom.Reads as seldom-reads
 
--- src/lib.rt:80:9
 to-bits-requires : tie.Need-to-bits-requires
-to-bits-requires c κs = ?
+to-bits-requires c κs = search needs
 
--- src/lib.rt:83:9
 returns : tie.Need-returns
-returns c = ?
+unfolding Tanh
+returns c =
+    sym (ap (ofBits binary32) (at-small (toBits binary32 (c .before .before .args .x)) (rw (c .before .to-bits .ensures) at (c .if1 .taken))) ∙ ofBits-toBits binary32 (c .before .before .args .x) (subst T (sym (c .before .before .good .1 .0 .1)) tt))
 
--- src/lib.rt:86:9
 seldom-requires : tie.Need-seldom-requires
-seldom-requires c κs = ?
+seldom-requires c κs = search needs
 
--- src/lib.rt:86:9
 returns-2 : tie.Need-returns-2
-returns-2 c = ?
+unfolding Tanh
+returns-2 c = c .seldom .ensures ∙ rw (c .before .before .before .to-bits .ensures)
 
--- src/lib.rt:88:20
 sub-result : tie.Need-sub-result
-sub-result c = ?
+sub-result c = search needs
 
--- src/lib.rt:88:28
 between-of-requires : tie.Need-between-of-requires
-between-of-requires c κs = ?
+between-of-requires c κs = search needs
 
--- src/lib.rt:88:20
 add-result : tie.Need-add-result
-add-result c = ?
+add-result c = record { fits = omega (arith, c .between-of .ensures, between-le _ (c .before .before .if1 .left) (c .before .if2 .left)) }
 
--- src/lib.rt:88:5
 float-from-bits-result : tie.Need-float-from-bits-result
-float-from-bits-result c = ?
+float-from-bits-result c = no-nan-pattern _ (omega (arith, c .between-of .ensures, between-le _ (c .before .before .if1 .left) (c .before .if2 .left)))
 
--- src/lib.rt:76:1
 returns-3 : tie.Need-returns-3
-returns-3 c = ?
+unfolding Tanh
+returns-3 c = rw (c .between-of .ensures, ← at-between (c .before .before .before .to-bits .result) (c .before .before .if1 .left) (c .before .if2 .left), c .before .before .before .to-bits .ensures)
 
 pub tanh-by-spec : {M : Type 1} → statement M
 tanh-by-spec =

@@ -1,146 +1,102 @@
-use mathlib.Core.Path.{_≡_, refl, sym, _∙_, ap}
-use Prim.Native.Nat.{ℕ, _+_, _*_, _-_, _/_, _%_, _≤_, _<_}
+-- `value_of` is the definition's quintic: each step is the definition's, its numbers stay small, and the last is not negative, by proofs/Range.antt.
+-- Assumes nothing.
 use native.Mathlib.Omega.{arith}
-use lib.ListN.{length, set, take, drop, length-set}
-use lib.Ieee.{Float, nan, binary32, add, mul}
+use Rattle.tangent.specs.Tanh.{slopeAt}
+use Rattle.tangent.proofs.Steps.{made, passed, passed-small, next}
+use Rattle.tangent.proofs.Range.{value-positive, value-le, value-is}
 use borrow.Author.Needs.{needs}
 use Rattle.tangent.proofs.value_of.Statement.{statement}
 use Rattle.tangent.proofs.value_of.Tie as tie
-use Rattle.tangent.proofs.value_of.Reads as reads
-use Rattle.tangent.proofs.value_of.Lts as lts
-use Rattle.tangent.proofs.step_of.Reads as step-of-reads
 
--- src/lib.rt:37:15
-mul-row : tie.Need-mul-row
-mul-row c = ?
+number-of-requires : tie.Need-number-of-requires
+number-of-requires c κs = search needs
 
--- src/lib.rt:38:31
-add-step-of : tie.Need-add-step-of
-add-step-of c = ?
+number-of-requires-2 : tie.Need-number-of-requires-2
+number-of-requires-2 c κs = search needs
 
--- src/lib.rt:38:29
-mul-step-of : tie.Need-mul-step-of
-mul-step-of c = ?
-
--- src/lib.rt:38:29
-element-copy-out-step-of : tie.Need-element-copy-out-step-of
-element-copy-out-step-of c = ?
-
--- src/lib.rt:38:43
-add-step-of-2 : tie.Need-add-step-of-2
-add-step-of-2 c = ?
-
--- src/lib.rt:38:41
-mul-step-of-2 : tie.Need-mul-step-of-2
-mul-step-of-2 c = ?
-
--- src/lib.rt:38:41
-element-copy-out-step-of-2 : tie.Need-element-copy-out-step-of-2
-element-copy-out-step-of-2 c = ?
-
--- src/lib.rt:38:41
-cast-step-of : tie.Need-cast-step-of
-cast-step-of c = ?
-
--- src/lib.rt:38:9
 step-of-requires : tie.Need-step-of-requires
-step-of-requires c κs = ?
+step-of-requires c κs =
+    let v5 = made (c .number-of2 .ensures) in
+    (c .before .before .pre .2, omega arith, omega arith, passed-small (made (c .before .number-of .ensures)) (omega arith) (omega arith), passed-small v5 (omega arith) (omega arith))
 
--- src/lib.rt:39:31
-add-step-of-3 : tie.Need-add-step-of-3
-add-step-of-3 c = ?
+number-of-requires-3 : tie.Need-number-of-requires-3
+number-of-requires-3 c κs = search needs
 
--- src/lib.rt:39:29
-mul-step-of-3 : tie.Need-mul-step-of-3
-mul-step-of-3 c = ?
-
--- src/lib.rt:39:29
-element-copy-out-step-of-3 : tie.Need-element-copy-out-step-of-3
-element-copy-out-step-of-3 c = ?
-
--- src/lib.rt:39:9
 step-of-requires-2 : tie.Need-step-of-requires-2
-step-of-requires-2 c κs = ?
+step-of-requires-2 c κs =
+    let v5 = made (c .before .before .number-of2 .ensures) in
+    let v4 = next _ 21 (made (c .before .before .before .number-of .ensures)) v5 (omega arith) (c .before .step-of .ensures) in
+    (c .before .before .before .before .pre .2, omega arith, omega arith, passed-small (made (c .number-of3 .ensures)) (omega arith) (omega arith), passed-small v4 (omega arith) (omega arith))
 
--- src/lib.rt:40:31
-add-step-of-4 : tie.Need-add-step-of-4
-add-step-of-4 c = ?
+number-of-requires-4 : tie.Need-number-of-requires-4
+number-of-requires-4 c κs = search needs
 
--- src/lib.rt:40:29
-mul-step-of-4 : tie.Need-mul-step-of-4
-mul-step-of-4 c = ?
-
--- src/lib.rt:40:29
-element-copy-out-step-of-4 : tie.Need-element-copy-out-step-of-4
-element-copy-out-step-of-4 c = ?
-
--- src/lib.rt:40:9
 step-of-requires-3 : tie.Need-step-of-requires-3
-step-of-requires-3 c κs = ?
+step-of-requires-3 c κs =
+    let v5 = made (c .before .before .before .before .number-of2 .ensures) in
+    let v4 = next _ 21 (made (c .before .before .before .before .before .number-of .ensures)) v5 (omega arith) (c .before .before .before .step-of .ensures) in
+    let v3 = next _ 21 (made (c .before .before .number-of3 .ensures)) v4 (omega arith) (c .before .step-of2 .ensures) in
+    (c .before .before .before .before .before .before .pre .2, omega arith, omega arith, passed-small (made (c .number-of4 .ensures)) (omega arith) (omega arith), passed-small v3 (omega arith) (omega arith))
 
--- src/lib.rt:41:31
-add-step-of-5 : tie.Need-add-step-of-5
-add-step-of-5 c = ?
+number-of-requires-5 : tie.Need-number-of-requires-5
+number-of-requires-5 c κs = search needs
 
--- src/lib.rt:41:29
-mul-step-of-5 : tie.Need-mul-step-of-5
-mul-step-of-5 c = ?
-
--- src/lib.rt:41:29
-element-copy-out-step-of-5 : tie.Need-element-copy-out-step-of-5
-element-copy-out-step-of-5 c = ?
-
--- src/lib.rt:41:9
 step-of-requires-4 : tie.Need-step-of-requires-4
-step-of-requires-4 c κs = ?
+step-of-requires-4 c κs =
+    let v5 = made (c .before .before .before .before .before .before .number-of2 .ensures) in
+    let v4 = next _ 21 (made (c .before .before .before .before .before .before .before .number-of .ensures)) v5 (omega arith) (c .before .before .before .before .before .step-of .ensures) in
+    let v3 = next _ 21 (made (c .before .before .before .before .number-of3 .ensures)) v4 (omega arith) (c .before .before .before .step-of2 .ensures) in
+    let v2 = next _ 21 (made (c .before .before .number-of4 .ensures)) v3 (omega arith) (c .before .step-of3 .ensures) in
+    (c .before .before .before .before .before .before .before .before .pre .2, omega arith, omega arith, passed-small (made (c .number-of5 .ensures)) (omega arith) (omega arith), passed-small v2 (omega arith) (omega arith))
 
--- src/lib.rt:42:20
-mul-step-of-6 : tie.Need-mul-step-of-6
-mul-step-of-6 c = ?
+number-of-requires-6 : tie.Need-number-of-requires-6
+number-of-requires-6 c κs = search needs
 
--- src/lib.rt:42:20
-element-copy-out-step-of-6 : tie.Need-element-copy-out-step-of-6
-element-copy-out-step-of-6 c = ?
-
--- src/lib.rt:42:5
 step-of-requires-5 : tie.Need-step-of-requires-5
-step-of-requires-5 c κs = ?
+step-of-requires-5 c κs =
+    let v5 = made (c .before .before .before .before .before .before .before .before .number-of2 .ensures) in
+    let v4 = next _ 21 (made (c .before .before .before .before .before .before .before .before .before .number-of .ensures)) v5 (omega arith) (c .before .before .before .before .before .before .before .step-of .ensures) in
+    let v3 = next _ 21 (made (c .before .before .before .before .before .before .number-of3 .ensures)) v4 (omega arith) (c .before .before .before .before .before .step-of2 .ensures) in
+    let v2 = next _ 21 (made (c .before .before .before .before .number-of4 .ensures)) v3 (omega arith) (c .before .before .before .step-of3 .ensures) in
+    let v1 = next _ 21 (made (c .before .before .number-of5 .ensures)) v2 (omega arith) (c .before .step-of4 .ensures) in
+    (c .before .before .before .before .before .before .before .before .before .before .pre .2, omega arith, omega arith, passed-small (made (c .number-of6 .ensures)) (omega arith) (omega arith), passed-small v1 (omega arith) (omega arith))
 
--- src/lib.rt:42:5
 cast-result : tie.Need-cast-result
-cast-result c = ?
+unfolding slopeAt
+cast-result c =
+    let v5 = made (c .before .before .before .before .before .before .before .before .before .number-of2 .ensures) in
+    let v4 = next _ 21 (made (c .before .before .before .before .before .before .before .before .before .before .number-of .ensures)) v5 (omega arith) (c .before .before .before .before .before .before .before .before .step-of .ensures) in
+    let v3 = next _ 21 (made (c .before .before .before .before .before .before .before .number-of3 .ensures)) v4 (omega arith) (c .before .before .before .before .before .before .step-of2 .ensures) in
+    let v2 = next _ 21 (made (c .before .before .before .before .before .number-of4 .ensures)) v3 (omega arith) (c .before .before .before .before .step-of3 .ensures) in
+    let v1 = next _ 21 (made (c .before .before .before .number-of5 .ensures)) v2 (omega arith) (c .before .before .step-of4 .ensures) in
+    let v0 = next _ 24 (made (c .before .number-of6 .ensures)) v1 (omega arith) (c .step-of5 .ensures) in
+    rw (passed v0 (omega arith), v0 .is) (value-positive (c .before .before .before .before .before .before .before .before .before .before .before .args .i) (c .before .before .before .before .before .before .before .before .before .before .before .args .d) (c .before .before .before .before .before .before .before .before .before .before .before .pre .1) (c .before .before .before .before .before .before .before .before .before .before .before .pre .2), record { fits = omega (arith, value-is (c .before .before .before .before .before .before .before .before .before .before .before .args .i) (c .before .before .before .before .before .before .before .before .before .before .before .args .d) (c .before .before .before .before .before .before .before .before .before .before .before .pre .1) (c .before .before .before .before .before .before .before .before .before .before .before .pre .2), value-le (c .before .before .before .before .before .before .before .before .before .before .before .args .i) (c .before .before .before .before .before .before .before .before .before .before .before .args .d) (c .before .before .before .before .before .before .before .before .before .before .before .pre .1) (c .before .before .before .before .before .before .before .before .before .before .before .pre .2)) })
 
--- src/lib.rt:33:1
 returns : tie.Need-returns
-returns c = ?
+unfolding slopeAt
+returns c =
+    let v5 = made (c .before .before .before .before .before .before .before .before .before .number-of2 .ensures) in
+    let v4 = next _ 21 (made (c .before .before .before .before .before .before .before .before .before .before .number-of .ensures)) v5 (omega arith) (c .before .before .before .before .before .before .before .before .step-of .ensures) in
+    let v3 = next _ 21 (made (c .before .before .before .before .before .before .before .number-of3 .ensures)) v4 (omega arith) (c .before .before .before .before .before .before .step-of2 .ensures) in
+    let v2 = next _ 21 (made (c .before .before .before .before .before .number-of4 .ensures)) v3 (omega arith) (c .before .before .before .before .step-of3 .ensures) in
+    let v1 = next _ 21 (made (c .before .before .before .number-of5 .ensures)) v2 (omega arith) (c .before .before .step-of4 .ensures) in
+    let v0 = next _ 24 (made (c .before .number-of6 .ensures)) v1 (omega arith) (c .step-of5 .ensures) in
+    rw (passed v0 (omega arith), v0 .is) (value-is (c .before .before .before .before .before .before .before .before .before .before .before .args .i) (c .before .before .before .before .before .before .before .before .before .before .before .args .d) (c .before .before .before .before .before .before .before .before .before .before .before .pre .1) (c .before .before .before .before .before .before .before .before .before .before .before .pre .2))
 
 pub value-of-spec : {M : Type 1} → statement M
 value-of-spec =
     tie.close
     (tie.spec
-    mul-row
-    add-step-of
-    mul-step-of
-    element-copy-out-step-of
-    add-step-of-2
-    mul-step-of-2
-    element-copy-out-step-of-2
-    cast-step-of
+    number-of-requires
+    number-of-requires-2
     step-of-requires
-    add-step-of-3
-    mul-step-of-3
-    element-copy-out-step-of-3
+    number-of-requires-3
     step-of-requires-2
-    add-step-of-4
-    mul-step-of-4
-    element-copy-out-step-of-4
+    number-of-requires-4
     step-of-requires-3
-    add-step-of-5
-    mul-step-of-5
-    element-copy-out-step-of-5
+    number-of-requires-5
     step-of-requires-4
-    mul-step-of-6
-    element-copy-out-step-of-6
+    number-of-requires-6
     step-of-requires-5
     cast-result
     returns)
