@@ -380,7 +380,7 @@ fn ordinary(t: &[u32; 256], bits: u32) -> f32
 }
 
 // z or 0, whichever is larger.
-pub fn positive_of(z: i64) -> u64
+fn positive_of(z: i64) -> u64
     ensures { λ r. ⌜ r ≡ positive z ⌝ }
 {
     if z < 0 {

@@ -1,10 +1,13 @@
 -- Which rule of Tanh applies to a pattern, one law for each way through the tests; and between the guards the result's pattern is at most that of 1.
 -- Assumes nothing.
-use mathlib.Core.Path.{_≡_}
+use mathlib.Core.Path.{_≡_, _∙_, ap}
 use Prim.Native.Nat.{ℕ, _+_, _-_, _*_, _/_, _%_, _^_, _≤_, _<_, min}
 use native.Mathlib.Omega.{arith}
 use borrow.Author.Tests.{lt-ltb, le-ltb, le-leb, lt-leb}
-use Rattle.tangent.specs.Tanh.{low, high, one, infinity, notANumber, valueAt, between, tanhBits}
+use lib.Dec.{T}
+use lib.Ieee.{Float, binary32, toBits, ofBits, fits}
+use lib.Ieee.Bits.{ofBits-toBits}
+use Rattle.tangent.specs.Tanh.{low, high, one, infinity, notANumber, valueAt, between, tanhBits, Tanh}
 use Rattle.tangent.proofs.Range.{value-le}
 
 pub at-nan : (b : ℕ) → infinity < b % 2 ^ 31 → tanhBits b ≡ notANumber
@@ -14,6 +17,11 @@ at-nan b n = rw (lt-ltb infinity (b % 2 ^ 31) n)
 pub at-small : (b : ℕ) → b % 2 ^ 31 ≤ low → tanhBits b ≡ b
 unfolding tanhBits
 at-small b h = rw (le-ltb infinity (b % 2 ^ 31) (omega arith), le-leb (b % 2 ^ 31) low h)
+
+-- then Tanh is the identity
+pub small-is : (x : Float) → T (fits binary32 x) → toBits binary32 x % 2 ^ 31 ≤ low → Tanh x ≡ x
+unfolding Tanh
+small-is x i h = ap (ofBits binary32) (at-small (toBits binary32 x) h) ∙ ofBits-toBits binary32 x i
 
 pub at-high : (b : ℕ) → b % 2 ^ 31 ≤ infinity → high ≤ b % 2 ^ 31 → tanhBits b ≡ b - b % 2 ^ 31 + one
 unfolding tanhBits

@@ -2,3 +2,4 @@ pub mod Cases
 pub mod Steps
 pub mod Range
 pub mod Guards
+pub mod Facts

@@ -1,12 +1,10 @@
 -- `tanh_by` is Tanh: two comparisons part the ways, and each is Tanh of the pattern, by proofs/Guards.antt. Assumes nothing.
-use mathlib.Core.Path.{sym, _∙_, ap, subst}
+use mathlib.Core.Path.{sym, _∙_, subst}
 use native.Mathlib.Omega.{arith}
 use lib.Dec.{T}
-use lib.Ieee.{binary32, ofBits, toBits}
-use lib.Ieee.Bits.{ofBits-toBits}
 use Rattle.single.proofs.Nan.{no-nan-pattern}
 use Rattle.tangent.specs.Tanh.{Tanh}
-use Rattle.tangent.proofs.Guards.{at-small, at-between, between-le}
+use Rattle.tangent.proofs.Guards.{small-is, at-between, between-le}
 use borrow.Author.Needs.{needs}
 use Rattle.tangent.proofs.tanh_by.Statement.{statement}
 use Rattle.tangent.proofs.tanh_by.Tie as tie
@@ -15,9 +13,7 @@ to-bits-requires : tie.Need-to-bits-requires
 to-bits-requires c κs = search needs
 
 returns : tie.Need-returns
-unfolding Tanh
-returns c =
-    sym (ap (ofBits binary32) (at-small (toBits binary32 (c .before .before .args .x)) (rw (c .before .to-bits .ensures) at (c .if1 .taken))) ∙ ofBits-toBits binary32 (c .before .before .args .x) (subst T (sym (c .before .before .good .1 .0 .1)) tt))
+returns c = sym (small-is (c .before .before .args .x) (subst T (sym (c .before .before .good .1 .0 .1)) tt) (rw (c .before .to-bits .ensures) at (c .if1 .taken)))
 
 seldom-requires : tie.Need-seldom-requires
 seldom-requires c κs = search needs
