@@ -19,6 +19,15 @@ pub nan-at-nan : Tanh nan ≡ nan
 unfolding Tanh toBits ofBits
 nan-at-nan = refl
 
+-- ---- the nearest floats to tanh 1 and tanh -0.5, as samples
+pub tanh-of-one : tanhBits 0x3f80_0000 ≡ 0x3f42_f7d6
+unfolding tanhBits
+tanh-of-one = refl
+
+pub tanh-of-minus-half : tanhBits 0xbf00_0000 ≡ 0xbeec_9a9f
+unfolding tanhBits
+tanh-of-minus-half = refl
+
 -- ---- patterns: what is left without the sign is at most the pattern of 1, and the sign stays
 size-le : (a : ℕ) → a ≤ infinity → tanhBits a ≤ one
 size-le a n =

@@ -46,7 +46,8 @@ unfoldable pub valueAt : ℕ → ℕ → ℕ
 unfolding slopeAt positive
 valueAt i d = positive (step d 24 (number i 0) (slopeAt i d))
 
--- |x| between 2^-13 and 10, by its pattern a. Of the floats of the binade one is 2^7 units, and in the binade below 2^6
+-- |x| between 2^-13 and 10, by its pattern a. The floats of the binade are 2^7 units apart, those of the binade below 2^6; of the two patterns the
+-- lower one is right
 unfoldable pub between : ℕ → ℕ
 unfolding valueAt
 between a =

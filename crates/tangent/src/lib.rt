@@ -12,13 +12,13 @@ ghost use lib.Ieee.{binary32, ofBits};
 ghost use Rattle.tangent.specs.Rows.{rows};
 ghost use Rattle.tangent.specs.Tanh.{low, high, number, step, valueAt, between, tanhBits, Tanh};
 
-mod numbers;
+mod rows;
 
 // The rows, to keep and lend.
 pub fn rows_of() -> [i32; 390]
     ensures { λ r. ⌜ r ≡ rows ⌝ }
 {
-    numbers::ROWS
+    rows::ROWS
 }
 
 // Number k of row i.
@@ -49,6 +49,7 @@ fn value_of(t: &[i32; 390], i: usize, d: u64) -> u64
     step_of(d, 24, number_of(t, i, 0), v1) as u64
 }
 
+// The lesser of two.
 fn lesser(a: u64, b: u64) -> u64
     ensures { λ r. ⌜ r ≡ min a b ⌝ }
 {
