@@ -1,12 +1,14 @@
--- Which rule of Tanh applies to a pattern, one law for each way through the tests; and between the guards the result's pattern is at most that of 1.
+-- Which rule of Tanh applies to a pattern, one law for each way through the tests, and what follows for the result's pattern.
 -- Assumes nothing.
 use mathlib.Core.Path.{_≡_, _∙_, ap}
+use mathlib.Core.Logic.{⊎-elim}
 use Prim.Native.Nat.{ℕ, _+_, _-_, _*_, _/_, _%_, _^_, _≤_, _<_, min}
 use native.Mathlib.Omega.{arith}
 use borrow.Author.Tests.{lt-ltb, le-ltb, le-leb, lt-leb}
 use lib.Dec.{T}
 use lib.Ieee.{Float, binary32, toBits, ofBits, fits}
 use lib.Ieee.Bits.{ofBits-toBits}
+use Rattle.single.proofs.Order.{le-or-lt}
 use Rattle.tangent.specs.Tanh.{low, high, one, infinity, notANumber, valueAt, between, tanhBits, Tanh}
 use Rattle.tangent.proofs.Range.{value-le}
 
@@ -45,3 +47,25 @@ pub between-is : (a y m w : ℕ) → y ≡ valueAt ((a - low) / 2 ^ 21) (a % 2 ^
     → (m / 2 ^ 23 - 2) * 2 ^ 23 + w / 2 ^ 6 ≡ between a
 unfolding between
 between-is a y m w e f g = omega arith
+
+-- ---- of any number: without the sign the result is at most the pattern of 1, and the sign stays
+pub size-le : (a : ℕ) → a ≤ infinity → tanhBits a ≤ one
+size-le a n =
+    ⊎-elim (λ s. omega (arith, at-small a (omega arith)))
+    (λ s.
+    ⊎-elim (λ l. omega (arith, at-high a (omega arith) (omega arith)))
+    (λ l. omega (arith, at-between a (omega arith) (omega arith), between-le (a % 2 ^ 31) (omega arith) (omega arith)))
+    (le-or-lt high a))
+    (le-or-lt a low)
+
+pub sign-stays : (b : ℕ) → b % 2 ^ 31 ≤ infinity → tanhBits b ≡ b - b % 2 ^ 31 + tanhBits (b % 2 ^ 31)
+sign-stays b n =
+    let a = b % 2 ^ 31 in
+    ⊎-elim (λ s. omega (arith, at-small b s, at-small a (omega arith)))
+    (λ s.
+    ⊎-elim (λ l. omega (arith, at-high b n l, at-high a (omega arith) (omega arith)))
+    (λ l.
+    let same : a % 2 ^ 31 ≡ a = omega arith in
+    omega (arith, at-between b s l, at-between a (omega arith) (omega arith), ap between same))
+    (le-or-lt high a))
+    (le-or-lt a low)

@@ -1,9 +1,9 @@
 -- The quintic is positive and comes to no more than 1, in every row and at every place. Each row is cut into pieces; on a piece, a step at one of the
 -- two ends bounds a step at any place between, and antt computes the bounds of all pieces. Assumes nothing.
-use mathlib.Core.Path.{_≡_, refl, sym, _∙_, ap}
+use mathlib.Core.Path.{_≡_, refl}
 use mathlib.Core.Logic.{⊎-elim}
 use mathlib.Core.Bool.{Bool, _&&_}
-use Prim.Native.Nat.{ℕ, zero, suc, _+_, _-_, _*_, _/_, _%_, _^_, _≤_, _<_}
+use Prim.Native.Nat.{ℕ, zero, suc, _+_, _*_, _/_, _^_, _≤_, _<_}
 use native.Mathlib.Nat.{mul-le-mul-left, mul-le-mul-right}
 use native.Mathlib.Omega.{arith}
 use borrow.Author.Tests.{le-ltb, lt-ltb}
@@ -101,14 +101,14 @@ quintic at i =
     step (at v1) 24 (number i 0) v1
 
 module _ (f g : ℤ → ℕ) (rises : (v w : ℤ) → Le v w → Le (v *ℤ pos (f v)) (w *ℤ pos (g w))) where
-  step-le : (s : ℕ) (c : ℤ) {v w : ℤ} → Le v w → Le (step (f v) s c v) (step (g w) s c w)
+  step-rises : (s : ℕ) (c : ℤ) {v w : ℤ} → Le v w → Le (step (f v) s c v) (step (g w) s c w)
   unfolding step
-  step-le s c {v} {w} h = add-le c (shr-le s (rises v w h))
+  step-rises s c {v} {w} h = add-le c (shr-le s (rises v w h))
 
-  quintic-le : (i : ℕ) → Le (quintic f i) (quintic g i)
+  quintic-rises : (i : ℕ) → Le (quintic f i) (quintic g i)
   unfolding quintic
-  quintic-le i =
-      step-le 24 (number i 0) (step-le 21 (number i 1) (step-le 21 (number i 2) (step-le 21 (number i 3) (step-le 21 (number i 4) (itself (number i 5))))))
+  quintic-rises i =
+      step-rises 24 (number i 0) (step-rises 21 (number i 1) (step-rises 21 (number i 2) (step-rises 21 (number i 3) (step-rises 21 (number i 4) (itself (number i 5))))))
 
 -- ---- the bounds of piece j of row i, of 64
 abbrev least : ℕ → ℕ → ℤ
@@ -146,13 +146,13 @@ module _ (i d : ℕ) (row : i < 65) (place : d < 2 ^ 21) where
   unfolding quintic fine slopeAt
   value-positive =
       not-negative (and-l (nonNeg (least i j)) (leb (over (most i j)) (2 ^ 31 + 95)) piece)
-      (quintic-le _ (λ _. d) (from-end (j * 2 ^ 15) (j * 2 ^ 15 + 2 ^ 15) d (omega arith) (omega arith)) i)
+      (quintic-rises _ (λ _. d) (from-end (j * 2 ^ 15) (j * 2 ^ 15 + 2 ^ 15) d (omega arith) (omega arith)) i)
 
-  -- and at most 1, with half of the distance to the next float
+  -- and below what rounds to a float above 1
   pub value-le : valueAt i d ≤ 2 ^ 31 + 95
   unfolding quintic fine valueAt
   value-le =
-      bounded value-positive (quintic-le (λ _. d) _ (to-end (j * 2 ^ 15) (j * 2 ^ 15 + 2 ^ 15) d (omega arith) (omega arith)) i)
+      bounded value-positive (quintic-rises (λ _. d) _ (to-end (j * 2 ^ 15) (j * 2 ^ 15 + 2 ^ 15) d (omega arith) (omega arith)) i)
       (leb→le _ _ (and-r (nonNeg (least i j)) (leb (over (most i j)) (2 ^ 31 + 95)) piece))
 
   pub value-is : natAbs (step d 24 (number i 0) (slopeAt i d)) ≡ valueAt i d

@@ -1,35 +1,32 @@
 -- One step of the quintic on the machine: no product or sum leaves 64 bits. Assumes nothing.
 use mathlib.Core.Path.{_≡_, _∙_}
-use mathlib.Core.Bool.{Bool}
-use Prim.Native.Nat.{ℕ, zero, suc, _+_, _-_, _*_, _^_, _≤_, _<_, zero-le}
+use Prim.Native.Nat.{ℕ, zero, suc, _+_, _*_, _^_, _≤_, _<_, zero-le}
 use native.Mathlib.Nat.{mul-le-mul, mul-le-mul-left, div-lt-iff-lt-mul, le-of-suc-le-suc, lt-of-lt-of-le, le-trans, le-refl, zero-div}
 use native.Mathlib.Omega.{arith}
 use lib.Dec.{T, ltb, ltb→lt}
 use lib.Pow.{pow-mono, pow-pos}
 use lib.IntN.{ℤ, pos, negsuc, negℤ, _+ℤ_, _*ℤ_}
+use lib.ListN.{getD}
 use lib.Signed.{mag, shrZ}
 use mir.Syntax.{w64}
 use mir.Val.{SFits, toZ, ofZ}
 use mir.Facts.{toZ-ofZ}
 use Rattle.exponent.proofs.Signed.{back, mag-add, mag-neg}
-use Rattle.single.proofs.Table.{every, at-index}
+use Rattle.lists.proofs.Every.{every, at-every}
 use Rattle.tangent.specs.Rows.{rows}
 use Rattle.tangent.specs.Tanh.{number, step}
 
 -- the numbers of the rows have 31 digits
-short-number : ℕ → ℤ → Bool
-short-number j z = ltb (mag z) (2 ^ 31)
-
-all-short : T (every short-number 0 rows)
-unfolding short-number rows
+all-short : T (every 390 (λ j. ltb (mag (getD rows j (pos 0))) (2 ^ 31)))
+unfolding rows
 all-short = tt
 
 pub number-small : (i k : ℕ) → i < 65 → k < 6 → mag (number i k) < 2 ^ 31
-unfolding short-number number
-number-small i k row place = ltb→lt _ _ (at-index short-number (pos 0) rows all-short (6 * i + k) (omega arith))
+unfolding number
+number-small i k row place = ltb→lt _ _ (at-every (λ j. ltb (mag (getD rows j (pos 0))) (2 ^ 31)) 390 all-short (6 * i + k) (omega arith))
 
 -- a product by d
-pub mag-product : (z : ℤ) (d : ℕ) → mag (z *ℤ pos d) ≤ (mag z + 1) * d
+mag-product : (z : ℤ) (d : ℕ) → mag (z *ℤ pos d) ≤ (mag z + 1) * d
 mag-product (pos a) d = omega arith
 mag-product (negsuc a) d = omega (arith, mag-neg (suc a * d))
 
@@ -70,7 +67,7 @@ module _ {d s : ℕ} {c v : ℤ} (h : Small d s c v) where
   part-small : mag (shrZ (v *ℤ pos d) (2 ^ s)) ≤ mag v
   part-small = mag-part v d (2 ^ s) (omega (arith, h .short, pow-mono {i = 21} {j = s} (h .far))) (pow-pos s)
 
-  pub part-back : toZ w64 (ofZ w64 (shrZ (v *ℤ pos d) (2 ^ s))) ≡ shrZ (v *ℤ pos d) (2 ^ s)
+  part-back : toZ w64 (ofZ w64 (shrZ (v *ℤ pos d) (2 ^ s))) ≡ shrZ (v *ℤ pos d) (2 ^ s)
   part-back = back (shrZ (v *ℤ pos d) (2 ^ s)) (omega (arith, part-small, h .small))
 
   pub step-le : mag (step d s c v) ≤ mag v + 2 ^ 31

@@ -41,7 +41,7 @@ unfoldable pub slopeAt : ℕ → ℕ → ℤ
 unfolding number step
 slopeAt i d = step d 21 (number i 1) (step d 21 (number i 2) (step d 21 (number i 3) (step d 21 (number i 4) (number i 5))))
 
--- the quintic of row i at d: tanh in units of 2^-30 of the binade, 32 added. It is positive, and no more than 1 comes to (proofs/Range.antt)
+-- the quintic of row i at d: tanh in units of 2^-30 of the binade, 32 added. It is positive, and rounds to 1 at most (proofs/Range.antt)
 unfoldable pub valueAt : ℕ → ℕ → ℕ
 unfolding slopeAt positive
 valueAt i d = positive (step d 24 (number i 0) (slopeAt i d))

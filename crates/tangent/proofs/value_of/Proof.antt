@@ -64,24 +64,26 @@ step-of-requires-5 c κs =
 cast-result : tie.Need-cast-result
 unfolding slopeAt
 cast-result c =
+    let start = c .before .before .before .before .before .before .before .before .before .before .before in
     let v5 = made (c .before .before .before .before .before .before .before .before .before .number-of2 .ensures) in
     let v4 = next _ 21 (made (c .before .before .before .before .before .before .before .before .before .before .number-of .ensures)) v5 (omega arith) (c .before .before .before .before .before .before .before .before .step-of .ensures) in
     let v3 = next _ 21 (made (c .before .before .before .before .before .before .before .number-of3 .ensures)) v4 (omega arith) (c .before .before .before .before .before .before .step-of2 .ensures) in
     let v2 = next _ 21 (made (c .before .before .before .before .before .number-of4 .ensures)) v3 (omega arith) (c .before .before .before .before .step-of3 .ensures) in
     let v1 = next _ 21 (made (c .before .before .before .number-of5 .ensures)) v2 (omega arith) (c .before .before .step-of4 .ensures) in
     let v0 = next _ 24 (made (c .before .number-of6 .ensures)) v1 (omega arith) (c .step-of5 .ensures) in
-    rw (passed v0 (omega arith), v0 .is) (value-positive (c .before .before .before .before .before .before .before .before .before .before .before .args .i) (c .before .before .before .before .before .before .before .before .before .before .before .args .d) (c .before .before .before .before .before .before .before .before .before .before .before .pre .1) (c .before .before .before .before .before .before .before .before .before .before .before .pre .2), record { fits = omega (arith, value-is (c .before .before .before .before .before .before .before .before .before .before .before .args .i) (c .before .before .before .before .before .before .before .before .before .before .before .args .d) (c .before .before .before .before .before .before .before .before .before .before .before .pre .1) (c .before .before .before .before .before .before .before .before .before .before .before .pre .2), value-le (c .before .before .before .before .before .before .before .before .before .before .before .args .i) (c .before .before .before .before .before .before .before .before .before .before .before .args .d) (c .before .before .before .before .before .before .before .before .before .before .before .pre .1) (c .before .before .before .before .before .before .before .before .before .before .before .pre .2)) })
+    rw (passed v0 (omega arith), v0 .is) (value-positive (start .args .i) (start .args .d) (start .pre .1) (start .pre .2), record { fits = omega (arith, value-is (start .args .i) (start .args .d) (start .pre .1) (start .pre .2), value-le (start .args .i) (start .args .d) (start .pre .1) (start .pre .2)) })
 
 returns : tie.Need-returns
 unfolding slopeAt
 returns c =
+    let start = c .before .before .before .before .before .before .before .before .before .before .before in
     let v5 = made (c .before .before .before .before .before .before .before .before .before .number-of2 .ensures) in
     let v4 = next _ 21 (made (c .before .before .before .before .before .before .before .before .before .before .number-of .ensures)) v5 (omega arith) (c .before .before .before .before .before .before .before .before .step-of .ensures) in
     let v3 = next _ 21 (made (c .before .before .before .before .before .before .before .number-of3 .ensures)) v4 (omega arith) (c .before .before .before .before .before .before .step-of2 .ensures) in
     let v2 = next _ 21 (made (c .before .before .before .before .before .number-of4 .ensures)) v3 (omega arith) (c .before .before .before .before .step-of3 .ensures) in
     let v1 = next _ 21 (made (c .before .before .before .number-of5 .ensures)) v2 (omega arith) (c .before .before .step-of4 .ensures) in
     let v0 = next _ 24 (made (c .before .number-of6 .ensures)) v1 (omega arith) (c .step-of5 .ensures) in
-    rw (passed v0 (omega arith), v0 .is) (value-is (c .before .before .before .before .before .before .before .before .before .before .before .args .i) (c .before .before .before .before .before .before .before .before .before .before .before .args .d) (c .before .before .before .before .before .before .before .before .before .before .before .pre .1) (c .before .before .before .before .before .before .before .before .before .before .before .pre .2))
+    rw (passed v0 (omega arith), v0 .is) (value-is (start .args .i) (start .args .d) (start .pre .1) (start .pre .2))
 
 pub value-of-spec : {M : Type 1} → statement M
 value-of-spec =
