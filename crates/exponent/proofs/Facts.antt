@@ -10,7 +10,8 @@ use lib.ListN.{length}
 use lib.Ieee.{Float, nan, inf, fin, binary32, toBits, ofBits, ofInt, fits, le, lt, neg, isNan}
 use lib.Ieee.Fits.{neg-fits}
 use lib.Ieee.Bits.{ofBits-fits}
-use Rattle.single.proofs.Order.{le-or-lt, le→bits, bits-le, neg-neg, signed-bits, neg-le, unsigned-of-le, signed-of-le, signless, pattern-signless, signless-lt, signless-zero, signless-bits}
+use Rattle.lists.proofs.Nums.{le-or-lt}
+use Rattle.single.proofs.Order.{le→bits, bits-le, neg-neg, signed-bits, neg-le, unsigned-of-le, signed-of-le, signless, pattern-signless, signless-lt, signless-zero, signless-bits}
 use Rattle.single.proofs.Sign.{magnitude-le, pattern-number}
 use Rattle.exponent.specs.Table.{table, entry}
 use Rattle.exponent.specs.Exp.{between, expBits, E}

@@ -10,7 +10,7 @@ use lib.IntN.{ℤ}
 use lib.Signed.{mag}
 use mir.Syntax.{w64}
 use mir.Val.{toZ, ofZ}
-use Rattle.single.proofs.Order.{le-or-lt}
+use Rattle.lists.proofs.Nums.{le-or-lt}
 use Rattle.exponent.specs.Table.{entry}
 use Rattle.exponent.specs.Split.{parts}
 use Rattle.exponent.specs.declared.Parts.{Parts}

@@ -10,7 +10,7 @@ use lib.Signed.{mag, nonNeg}
 use mir.Syntax.{w64}
 use mir.Val.{SFits, toZ, ofZ}
 use mir.Facts.{toZ-ofZ}
-use Rattle.single.proofs.Order.{le-or-lt}
+use Rattle.lists.proofs.Nums.{le-or-lt}
 use Rattle.exponent.specs.Split.{parts}
 use Rattle.exponent.specs.Exp.{nearest, positive, magnitude, scaled, raised, between, expBits}
 use Rattle.exponent.specs.declared.Power.{Power}

@@ -14,7 +14,7 @@ use lib.Signed.{mag, ltZ, nonNeg, shrZ, mag-shr}
 use mir.Syntax.{w64}
 use mir.Val.{SFits, toZ, ofZ}
 use mir.Facts.{toZ-ofZ, sfits-lit}
-use Rattle.single.proofs.Order.{le-or-lt}
+use Rattle.lists.proofs.Nums.{le-or-lt}
 use Rattle.exponent.specs.Exp.{positive}
 use Rattle.exponent.specs.Split.{parts, Splits}
 

@@ -2,4 +2,3 @@ pub mod Nan
 pub mod Sum
 pub mod Order
 pub mod Sign
-pub mod Table

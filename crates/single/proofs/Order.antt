@@ -17,11 +17,7 @@ use lib.Ieee.Fits.{and-l, and-r, kept-lt, down-pos, up-pos, two, two-le-pos}
 use lib.Ieee.Bits.{ofBits-toBits}
 use lib.Ieee.Nearest.{div-mono}
 use lib.Ieee.Positive.{positive, above, above-of-le}
-
-pub le-or-lt : (a b : ℕ) → (a ≤ b) ⊎ (b < a)
-le-or-lt zero b = inl zero-le
-le-or-lt (suc a) zero = inr (suc-le-suc zero-le)
-le-or-lt (suc a) (suc b) = ⊎-elim (λ p. inl (suc-le-suc p)) (λ q. inr (suc-le-suc q)) (le-or-lt a b)
+use Rattle.lists.proofs.Nums.{le-or-lt}
 
 -- ---- A pattern's number, of a magnitude of n units of the format's smallest value: the digits that are kept, p of them, and how many were dropped.
 digits : ℕ → ℕ → ℕ

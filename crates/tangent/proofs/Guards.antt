@@ -8,7 +8,7 @@ use borrow.Author.Tests.{lt-ltb, le-ltb, le-leb, lt-leb}
 use lib.Dec.{T}
 use lib.Ieee.{Float, binary32, toBits, ofBits, fits}
 use lib.Ieee.Bits.{ofBits-toBits}
-use Rattle.single.proofs.Order.{le-or-lt}
+use Rattle.lists.proofs.Nums.{le-or-lt}
 use Rattle.tangent.specs.Tanh.{low, high, one, infinity, notANumber, valueAt, between, tanhBits, Tanh}
 use Rattle.tangent.proofs.Range.{value-le}
 

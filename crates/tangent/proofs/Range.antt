@@ -13,7 +13,7 @@ use lib.IntN.{ℤ, pos, negsuc, negℤ, natAbs, subℕ, _+ℤ_, _*ℤ_}
 use lib.Signed.{shrZ, nonNeg}
 use lib.Ieee.Fits.{and-l, and-r}
 use Rattle.lists.proofs.Every.{every, at-every}
-use Rattle.single.proofs.Order.{le-or-lt}
+use Rattle.lists.proofs.Nums.{le-or-lt}
 use Rattle.exponent.specs.Exp.{positive}
 use Rattle.exponent.proofs.Signed.{positive-is}
 use Rattle.tangent.specs.Tanh.{number, step, slopeAt, valueAt}
