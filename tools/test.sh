@@ -14,8 +14,10 @@ need() { # the packages that the quick checks are built with
 }
 
 need gcc libmpfr-dev
+echo "== the example, held to what it should print"
+bash examples/play.sh | tail -n +2 >/tmp/cragnolief-play.$$ && diff examples/c/expected.txt /tmp/cragnolief-play.$$ && rm /tmp/cragnolief-play.$$
+
 echo "== the proved exp and tanh against MPFR, a sample of patterns"
-rt staticlib wavenet >target/staticlib.log 2>&1 || { tail -20 target/staticlib.log; exit 1; }
 bash tools/measure/run.sh 20011
 
 echo "== rt ci: proofs from nothing, must-fail edits, programs"
