@@ -1,5 +1,5 @@
 // An activation over a stretch of one buffer. The case is picked once and not per number, so that each loop is plain; a number is read before its place
-// is written, also where the two stretches are one.
+// is written, also where the two stretches are one. A loop makes the table that it needs once, and lends it.
 ghost use mathlib.Core.Path.{_≡_};
 ghost use Prim.Native.Nat.{_+_, _≤_};
 ghost use lib.ListN.{length};
@@ -11,9 +11,10 @@ pub fn tanh_over(work: &mut [f32], to: usize, from: usize, n: usize)
     requires { ⌜ (to ≤ from) × (from + n ≤ length (now work)) ⌝ }
     ensures { λ _. ⌜ now (work .exit) ≡ fill to n (λ i. Tanh (at (now (work .entry)) (from + i))) (now (work .entry)) ⌝ }
 {
+    let t = tangent::rows_of();
     for i in 0..n {
         let x = work[from + i];
-        work[to + i] = tangent::tanh(x);
+        work[to + i] = tangent::tanh_by(&t, x);
     }
 }
 

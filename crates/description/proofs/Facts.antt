@@ -114,6 +114,10 @@ empty : (s : Sizes) → [] ≡ listed s → ⊥
 unfolding listed
 empty s e = let z : _≡_ {A = ℕ} 0 1 = cc in omega arith
 
+no-values : (b : Bool) (s : Sizes) → [] ≡ cond b (listed s) [] → b ≡ false
+no-values false s e = refl
+no-values true s e = absurd (empty s e)
+
 sound-of : {s t : Sizes} → Sound s ≡ Sound t → s ≡ t
 sound-of e = cc
 
@@ -144,6 +148,6 @@ pub sound-only : (d : List ℕ) {s : Sizes} → Answers d (Sound s) → (refusal
 unfolding numberOf
 sound-only d {s} a = let z = sym (a .number) in (z, sound-of (sizes-are d a z))
 
-pub refused-only : (d : List ℕ) {n : ℕ} → Answers d (Refused n) → n ≡ refusalOf d
-unfolding numberOf
-refused-only d a = a .number
+pub refused-only : (d : List ℕ) {n : ℕ} → Answers d (Refused n) → (n ≡ refusalOf d) × (eqb (refusalOf d) 0 ≡ false)
+unfolding numberOf valuesOf
+refused-only d a = (a .number, no-values (eqb (refusalOf d) 0) (sizesOf d) (a .values))

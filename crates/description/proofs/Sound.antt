@@ -2,7 +2,7 @@
 use mathlib.Core.Path.{_≡_, refl, sym, _∙_, ap, subst}
 use mathlib.Core.Bool.{Bool, true, false, cond, not, _&&_, _||_}
 use mathlib.Core.List.{List, [], _∷_, _++_}
-use Prim.Native.Nat.{ℕ, zero, suc, _+_, _*_, _/_, _%_, _≤_, _<_, max}
+use Prim.Native.Nat.{ℕ, zero, suc, _+_, _-_, _*_, _/_, _%_, _≤_, _<_, max}
 use native.Mathlib.Nat.{add-comm, add-zero, div-add-mod, le-max-left, le-max-right, max-le}
 use native.Mathlib.Numerals.{add-one}
 use native.Mathlib.Omega.{arith}
@@ -67,6 +67,20 @@ module _ (d : List ℕ) where
   unfolding partsOf
   part-last =
       rw (← length-to (layerCount d)) (getD-append-seam (partsTo d (layerCount d)) (headRechannelOf (arrayOf d)) [] Absent)
+
+  -- the same by the number alone
+  pub number-first : (i : ℕ) → i ≡ 0 → rechannelOf (arrayOf d) ≡ getD (partsOf d) i Absent
+  number-first i z = sym part-first ∙ ap (λ (i : ℕ). getD (partsOf d) i Absent) (sym z)
+
+  pub number-slot : (i : ℕ) → (i ≡ 0 → ⊥) → ((i - 1) / 12 ≡ layerCount d → ⊥) → i < 12 * layerCount d + 2
+      → partOf (arrayOf d) (layerOf d ((i - 1) / 12)) ((i - 1) % 12) ≡ getD (partsOf d) i Absent
+  number-slot i nz nl lt =
+      let e : 1 + (12 * ((i - 1) / 12) + (i - 1) % 12) ≡ i = omega arith in
+      sym (part-slot ((i - 1) / 12) ((i - 1) % 12) (omega arith) (omega arith)) ∙ ap (λ (i : ℕ). getD (partsOf d) i Absent) e
+
+  pub number-last : (i : ℕ) → (i ≡ 0 → ⊥) → (i - 1) / 12 ≡ layerCount d → i < 12 * layerCount d + 2 → headRechannelOf (arrayOf d) ≡ getD (partsOf d) i Absent
+  number-last i nz l lt =
+      let e : 12 * layerCount d + 1 ≡ i = omega arith in sym part-last ∙ ap (λ (i : ℕ). getD (partsOf d) i Absent) e
 
   -- the place of the next part is the place past this one
   pub place-next : (i : ℕ) → i < length (partsOf d) → placeAt d (i + 1) ≡ pastOf (placeAt d i) (getD (partsOf d) i Absent)
@@ -326,3 +340,8 @@ module _ (d : List ℕ) (ok : refusalOf d ≡ 0) where
   pub positions-most : total positionsOf (partsOf d) ≤ 290
   unfolding positionsOf
   positions-most = omega (arith, total-le positionsOf 1 (partsOf d) (λ i. at-most-one (getD (partsOf d) i Absent)), length-parts d, layers-are .most)
+
+-- the code's a, and its count of layers
+pub layers-of : (d : List ℕ) {a : ArrayRecord} → a ≡ arrayOf d → a .layers ≡ layerCount d
+unfolding arrayOf
+layers-of d e = ap (λ (a : ArrayRecord). a .layers) e

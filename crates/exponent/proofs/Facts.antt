@@ -9,9 +9,9 @@ use lib.IntN.{pos, negsuc}
 use lib.ListN.{length}
 use lib.Ieee.{Float, nan, inf, fin, binary32, toBits, ofBits, ofInt, fits, le, lt, neg, isNan}
 use lib.Ieee.Fits.{neg-fits}
-use lib.Ieee.Bits.{ofBits-fits, nanBits-is}
+use lib.Ieee.Bits.{ofBits-fits}
 use Rattle.single.proofs.Order.{le-or-lt, le→bits, bits-le, neg-neg, signed-bits, neg-le, unsigned-of-le, signed-of-le, signless, pattern-signless, signless-lt, signless-zero, signless-bits}
-use Rattle.single.proofs.Nan.{no-nan-pattern}
+use Rattle.single.proofs.Sign.{magnitude-le, pattern-number}
 use Rattle.exponent.specs.Table.{table, entry}
 use Rattle.exponent.specs.Exp.{between, expBits, E}
 use Rattle.exponent.proofs.Rule.{rule-at}
@@ -132,17 +132,9 @@ pub not-minus-zero : (x : Float) → E x ≡ fin true 0 (pos 0) → ⊥
 not-minus-zero x = signless-zero (E x) (without-sign x)
 
 -- ---- and NaN alone does
-pattern-le : (x : Float) → T (fits binary32 x) → T (not (isNan x)) → toBits binary32 x % 2 ^ 31 ≤ 0x7f80_0000
-unfolding isNan neg
-pattern-le nan i n = absurd n
-pattern-le (inf false) i n = omega (arith, bits-le binary32 (inf false) tt i)
-pattern-le (fin false m e) i n = omega (arith, bits-le binary32 (fin false m e) tt i)
-pattern-le (inf true) i n = omega (arith, signed-bits binary32 (inf true) tt, bits-le binary32 (inf false) tt (neg-fits binary32 (inf true) i))
-pattern-le (fin true m e) i n = omega (arith, signed-bits binary32 (fin true m e) tt, bits-le binary32 (fin false m e) tt (neg-fits binary32 (fin true m e) i))
-
 pub number-at-number : (x : Float) → T (fits binary32 x) → T (not (isNan x)) → T (not (isNan (E x)))
 unfolding E
 number-at-number x i n =
-    let b = expBits (toBits binary32 x) in
-    let h = exp-le (toBits binary32 x) (pattern-le x i n) in
-    subst (λ (t : Bool). T (not t)) (nanBits-is binary32 b) (no-nan-pattern b (omega arith))
+    let b = toBits binary32 x in
+    let h = exp-le b (magnitude-le binary32 x i n) in
+    pattern-number binary32 (expBits b) (omega arith)

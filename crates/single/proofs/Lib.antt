@@ -1,4 +1,5 @@
 pub mod Nan
 pub mod Sum
 pub mod Order
+pub mod Sign
 pub mod Table

@@ -85,15 +85,15 @@ or-split true b t = inl tt
 or-split false b t = inr t
 
 -- what `le` tests of two magnitudes
-test→le : (a b : ℕ) → T (ltb a b || (eqb a b && true)) → a ≤ b
+pub test→le : (a b : ℕ) → T (ltb a b || (eqb a b && true)) → a ≤ b
 test→le a b t = ⊎-elim (λ u. le-of-lt (ltb→lt a b u)) (λ u. le-of-eq (eqb→eq a b (and-l (eqb a b) true u))) (or-split (ltb a b) (eqb a b && true) t)
+
+pub or-true : (t : Bool) → T (t || true)
+or-true true = tt
+or-true false = tt
 
 le→test : (a b : ℕ) → a ≤ b → T (ltb a b || (eqb a b && true))
 le→test a b h = ⊎-elim (λ e. rw (eq-eqb a b e) (or-true (ltb a b))) (λ l. rw (lt-ltb a b l) tt) (eq-or-lt-of-le h)
-  where
-    or-true : (t : Bool) → T (t || true)
-    or-true true = tt
-    or-true false = tt
 
 -- a float that fits is below 2 ^ (emax + 1)
 amount-lt : (f : Format) (m : ℕ) (e : ℤ) → T (fits f (fin false m e)) → m * up e * 2 ^ low f / down e < 2 ^ (low f + suc (emax f))
@@ -278,7 +278,7 @@ signless-lt (fin false m e) p = le-ltb (m * up e * 1) (0 * down e) (omega (arith
 pub signless-zero : (x : Float) → T (signless x) → x ≡ fin true 0 (pos 0) → ⊥
 signless-zero x p e = subst (λ (z : Float). T (signless z)) e p
 
-infinity-lt : (f : Format) → ones f * hid f < top f
+pub infinity-lt : (f : Format) → ones f * hid f < top f
 infinity-lt binary32 = lit< tt
 infinity-lt binary64 = lit< tt
 

@@ -1,3 +1,4 @@
-pub mod Cases
-pub mod Rule
 pub mod Steps
+pub mod Range
+pub mod Guards
+pub mod Facts

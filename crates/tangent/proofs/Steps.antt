@@ -1,67 +1,109 @@
--- The steps stay in range, and the result is at most 1. Assumes nothing.
-use mathlib.Core.Path.{_≡_, refl, sym, _∙_, ap}
-use Prim.Native.Nat.{ℕ, _+_, _-_, _*_, _/_, _%_, _^_, _≤_, _<_, min}
-use native.Mathlib.Nat.{mul-le-mul, mul-le-mul-left, mul-le-mul-right, mul-add}
-use borrow.Author.Tests.{le-ltb, lt-leb}
+-- One step of the quintic on the machine: no product or sum leaves 64 bits. Assumes nothing.
+use mathlib.Core.Path.{_≡_, _∙_}
+use mathlib.Core.Bool.{Bool}
+use Prim.Native.Nat.{ℕ, zero, suc, _+_, _-_, _*_, _^_, _≤_, _<_, zero-le}
+use native.Mathlib.Nat.{mul-le-mul, mul-le-mul-left, div-lt-iff-lt-mul, le-of-suc-le-suc, lt-of-lt-of-le, le-trans, le-refl, zero-div}
 use native.Mathlib.Omega.{arith}
-use Rattle.tangent.specs.declared.Row.{Row}
-use Rattle.tangent.specs.Tanh.{low, high, one, rowOf, bendAt, slopeAt, valueAt, nearest, between, infinity, tanhBits}
-use Rattle.tangent.proofs.Rule.{Right, row-right}
+use lib.Dec.{T, ltb, ltb→lt}
+use lib.Pow.{pow-mono, pow-pos}
+use lib.IntN.{ℤ, pos, negsuc, negℤ, _+ℤ_, _*ℤ_}
+use lib.Signed.{mag, shrZ}
+use mir.Syntax.{w64}
+use mir.Val.{SFits, toZ, ofZ}
+use mir.Facts.{toZ-ofZ}
+use Rattle.exponent.proofs.Signed.{back, mag-add, mag-neg}
+use Rattle.single.proofs.Table.{every, at-index}
+use Rattle.tangent.specs.Rows.{rows}
+use Rattle.tangent.specs.Tanh.{number, step}
 
-module _ (r : Row) (d : ℕ) (ok : Right r) (in-stretch : d < 0x40000) where
-  pub left-le : r .bend * (0x40000 - d) ≤ 2 ^ 53
-  left-le = mul-le-mul {n₁ = r .bend} {m₁ = 0x40000 - d} {n₂ = 2 ^ 35} {m₂ = 2 ^ 18} (omega (arith, ok .bend-high, ok .slope-high)) (omega arith)
+-- the numbers of the rows have 31 digits
+short-number : ℕ → ℤ → Bool
+short-number j z = ltb (mag z) (2 ^ 31)
 
-  pub right-le : r .bent * d ≤ 2 ^ 53
-  right-le = mul-le-mul {n₁ = r .bent} {m₁ = d} {n₂ = 2 ^ 35} {m₂ = 2 ^ 18} (omega (arith, ok .bent-high, ok .slope-high)) (omega arith)
+all-short : T (every short-number 0 rows)
+unfolding short-number rows
+all-short = tt
 
-  -- a mean of the two bends
-  pub bend-le : bendAt r d ≤ 16 * r .slope
-  unfolding bendAt
-  bend-le =
-      let s = 16 * r .slope in
-      let a : r .bend * (0x40000 - d) ≤ s * (0x40000 - d) = mul-le-mul-right (0x40000 - d) (ok .bend-high) in
-      let b : r .bent * d ≤ s * d = mul-le-mul-right d (ok .bent-high) in
-      let e : s * (0x40000 - d) + s * d ≡ s * 0x40000 = sym (mul-add s (0x40000 - d) d) ∙ ap (λ (n : ℕ). s * n) (omega arith) in
-      omega (arith, a, b, e)
+pub number-small : (i k : ℕ) → i < 65 → k < 6 → mag (number i k) < 2 ^ 31
+unfolding short-number number
+number-small i k row place = ltb→lt _ _ (at-index short-number (pos 0) rows all-short (6 * i + k) (omega arith))
 
-  pub bent-le : bendAt r d * d ≤ 16 * r .slope * 0x40000
-  bent-le = mul-le-mul {n₁ = bendAt r d} {m₁ = d} {n₂ = 16 * r .slope} {m₂ = 0x40000} bend-le (omega arith)
+-- a product by d
+pub mag-product : (z : ℤ) (d : ℕ) → mag (z *ℤ pos d) ≤ (mag z + 1) * d
+mag-product (pos a) d = omega arith
+mag-product (negsuc a) d = omega (arith, mag-neg (suc a * d))
 
-  -- the slope outweighs it
-  pub slope-stays : bendAt r d * d / 2 ^ 22 ≤ r .slope
-  slope-stays = omega (arith, bent-le)
+-- and by d / n, where that is at most 1
+mag-part : (z : ℤ) (d n : ℕ) → d ≤ n → 0 < n → mag (shrZ (z *ℤ pos d) n) ≤ mag z
+mag-part (pos a) d n h p = le-of-suc-le-suc (div-lt-iff-lt-mul p .1 (omega (arith, mul-le-mul-left a h)))
+mag-part (negsuc a) d n h p = part (suc a * d) (mul-le-mul-left (suc a) h)
+  where
+    part : (m : ℕ) → m ≤ suc a * n → mag (shrZ (negℤ (pos m)) n) ≤ a
+    part zero l = rw (zero-div n) zero-le
+    part (suc m) l = le-of-suc-le-suc (div-lt-iff-lt-mul p .1 l)
 
-  pub rise-le : slopeAt r d * d ≤ r .slope * 0x40000
-  unfolding slopeAt
-  rise-le = mul-le-mul {n₁ = slopeAt r d} {m₁ = d} {n₂ = r .slope} {m₂ = 0x40000} (omega arith) (omega arith)
+-- what a step asks of its numbers
+pub record Small (d s : ℕ) (c v : ℤ) : Type 0 where
+  pub short : d < 2 ^ 21
+  pub far : 21 ≤ s
+  pub entry : mag c < 2 ^ 31
+  pub small : mag v < 2 ^ 34
 
-  pub value-le : valueAt r d ≤ 2 ^ 31 + 32
-  unfolding valueAt
-  value-le = omega (arith, rise-le, ok .value-high)
+module _ {d s : ℕ} {c v : ℤ} (h : Small d s c v) where
+  c-back : toZ w64 (ofZ w64 c) ≡ c
+  c-back = back c (omega (arith, h .entry))
 
-  pub nearest-le : nearest r (valueAt r d) ≤ one
-  unfolding nearest
-  nearest-le = omega (arith, value-le, ok .base-high)
+  pub d-back : toZ w64 d ≡ pos d
+  d-back = back (pos d) (omega (arith, h .short))
 
-pub row-in : (a : ℕ) → low < a → a < high → (a - low) / 2 ^ 18 < 520
-row-in a lo hi = omega arith
+  pub v-back : toZ w64 (ofZ w64 v) ≡ v
+  v-back = back v (omega (arith, h .small))
 
-pub between-le : (a : ℕ) → low < a → a < high → between a ≤ one
-unfolding between
-between-le a lo hi =
-    nearest-le (rowOf ((a - low) / 2 ^ 18)) (a % 2 ^ 18) (row-right ((a - low) / 2 ^ 18) (row-in a lo hi)) (omega arith)
+  pub product-fits : SFits w64 (v *ℤ pos d)
+  product-fits =
+      record {
+        sfits =
+            omega
+            (arith, mag-product v d, mul-le-mul {n₁ = mag v + 1} {m₁ = d} {n₂ = 2 ^ 34} {m₂ = 2 ^ 21} (omega (arith, h .small)) (omega (arith, h .short)));
+      }
 
--- the lesser of the two, as the code picks it
-pub below-is : (r : Row) (y : ℕ) → y / 64 ≤ (y + 0x4000_0020) / 128 → r .base + y / 64 ≡ nearest r y
-unfolding nearest
-below-is r y h = omega arith
+  part-small : mag (shrZ (v *ℤ pos d) (2 ^ s)) ≤ mag v
+  part-small = mag-part v d (2 ^ s) (omega (arith, h .short, pow-mono {i = 21} {j = s} (h .far))) (pow-pos s)
 
-pub within-is : (r : Row) (y : ℕ) → (y + 0x4000_0020) / 128 < y / 64 → r .base + (y + 0x4000_0020) / 128 ≡ nearest r y
-unfolding nearest
-within-is r y h = omega arith
+  pub part-back : toZ w64 (ofZ w64 (shrZ (v *ℤ pos d) (2 ^ s))) ≡ shrZ (v *ℤ pos d) (2 ^ s)
+  part-back = back (shrZ (v *ℤ pos d) (2 ^ s)) (omega (arith, part-small, h .small))
 
--- between 2^-13 and 10
-pub ordinary-is : (b : ℕ) → low < b % 2 ^ 31 → b % 2 ^ 31 < high → b - b % 2 ^ 31 + between (b % 2 ^ 31) ≡ tanhBits b
-unfolding tanhBits
-ordinary-is b lo hi = rw (le-ltb infinity (b % 2 ^ 31) (omega arith), lt-leb (b % 2 ^ 31) low lo, lt-leb high (b % 2 ^ 31) hi)
+  pub step-le : mag (step d s c v) ≤ mag v + 2 ^ 31
+  unfolding step
+  step-le = omega (arith, mag-add c (shrZ (v *ℤ pos d) (2 ^ s)), part-small, h .entry)
+
+  pub step-fits : SFits w64 (step d s c v)
+  step-fits = record { sfits = omega (arith, step-le, h .small) }
+
+  -- the step as the machine does it
+  pub machine-is :
+      toZ w64 (ofZ w64 c) +ℤ toZ w64 (ofZ w64 (shrZ (toZ w64 (ofZ w64 (toZ w64 (ofZ w64 v) *ℤ toZ w64 d))) (2 ^ s))) ≡ step d s c v
+  unfolding step
+  machine-is = rw (v-back, d-back, toZ-ofZ product-fits, part-back, c-back)
+
+-- ---- what a caller has of a number: which one it is, and how small
+pub record Is (r z : ℤ) (n : ℕ) : Type 0 where
+  pub is : r ≡ z
+  pub small : mag r < n
+
+pub made : {r z : ℤ} {n : ℕ} → (r ≡ z) × (mag r < n) → Is r z n
+made h = record { is = h .0; small = h .1 }
+
+-- passed on, it comes back from its bits
+pub passed : {r z : ℤ} {n : ℕ} → Is r z n → n ≤ 2 ^ 63 → toZ w64 (ofZ w64 r) ≡ r
+passed {r} h l = back r (lt-of-lt-of-le (h .small) l)
+
+pub passed-small : {r z : ℤ} {n m : ℕ} → Is r z n → n ≤ m → m ≤ 2 ^ 63 → mag (toZ w64 (ofZ w64 r)) < m
+passed-small h l k = rw (passed h (le-trans l k)) (lt-of-lt-of-le (h .small) l)
+
+-- one step on
+pub next : (d s : ℕ) {c k v z r : ℤ} {n : ℕ} → Is c k (2 ^ 31) → Is v z n → n ≤ 2 ^ 63
+    → (r ≡ step d s (toZ w64 (ofZ w64 c)) (toZ w64 (ofZ w64 v))) × (mag r ≤ mag (toZ w64 (ofZ w64 v)) + 2 ^ 31)
+    → Is r (step d s k z) (n + 2 ^ 31)
+next d s a b l e =
+    record { is = e .0 ∙ rw (passed a (omega arith), passed b l, a .is, b .is); small = omega (arith, e .1, passed-small b (le-refl _) l) }

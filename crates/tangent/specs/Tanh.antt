@@ -1,13 +1,15 @@
--- Tanh in whole numbers, from pattern to pattern, every rounding stated. Document 01, 'Tanh and exp'. Each rounding is a floor: `/`.
--- |x| from 2^-13 to 10 is cut into stretches of 2^18 patterns. On each, tanh is a cubic in the place d within the stretch, kept in a row of five
--- whole numbers. The result's pattern is the base, which is that of a binade, and the nearest float in it or in the binade below.
+-- Tanh in whole numbers, from pattern to pattern. Document 01, 'Tanh and exp'. Every rounding is down: a quotient `/`, or `shrZ` of a signed number.
+-- |x| from 2^-13 to 10 is cut into stretches of 2^21 patterns. On each, tanh is a quintic in the place d within the stretch, kept as a row of six
+-- whole numbers. The result is the nearest float, in the binade of x (from 1 up: the one below 1) or in the binade below that.
 use mathlib.Core.Bool.{cond}
 use Prim.Native.Nat.{ℕ, _+_, _-_, _*_, _/_, _%_, _^_, min}
+use lib.IntN.{ℤ, pos, _+ℤ_, _*ℤ_}
+use lib.Signed.{shrZ}
 use lib.ListN.{getD}
 use lib.Dec.{leb, ltb}
 use lib.Ieee.{Float, binary32, ofBits, toBits}
-use Rattle.tangent.specs.Rows.{bases, starts, slopes, bends, bents}
-use Rattle.tangent.specs.declared.Row.{Row}
+use Rattle.exponent.specs.Exp.{positive}
+use Rattle.tangent.specs.Rows.{rows}
 
 -- 2^-13, 10, 1, infinity and the NaN, by their patterns
 abbrev pub low : ℕ
@@ -25,35 +27,34 @@ infinity = 0x7f80_0000
 abbrev pub notANumber : ℕ
 notANumber = 0x7fc0_0000
 
--- row i
-unfoldable pub rowOf : ℕ → Row
-unfolding bases starts slopes bends bents
-rowOf i = record { base = getD bases i 0; start = getD starts i 0; slope = getD slopes i 0; bend = getD bends i 0; bent = getD bents i 0 }
+-- number k of row i
+unfoldable pub number : ℕ → ℕ → ℤ
+unfolding rows
+number i k = getD rows (6 * i + k) (pos 0)
 
--- the cubic: how much it bends at d, its slope to there, and its value there, tanh in units of 2^-30 of the binade, 32 added
-unfoldable pub bendAt : Row → ℕ → ℕ
-bendAt r d = (r .bend * (0x40000 - d) + r .bent * d) / 2 ^ 18
+-- a number c of a row, and d / 2^s of what the numbers behind it come to
+unfoldable pub step : ℕ → ℕ → ℤ → ℤ → ℤ
+step d s c v = c +ℤ shrZ (v *ℤ pos d) (2 ^ s)
 
-unfoldable pub slopeAt : Row → ℕ → ℕ
-unfolding bendAt
-slopeAt r d = r .slope - bendAt r d * d / 2 ^ 22
+-- numbers 1 to 5 of row i at d, in eighths
+unfoldable pub slopeAt : ℕ → ℕ → ℤ
+unfolding number step
+slopeAt i d = step d 21 (number i 1) (step d 21 (number i 2) (step d 21 (number i 3) (step d 21 (number i 4) (number i 5))))
 
-unfoldable pub valueAt : Row → ℕ → ℕ
-unfolding slopeAt
-valueAt r d = r .start + slopeAt r d * d / 2 ^ 24
+-- the quintic of row i at d: tanh in units of 2^-30 of the binade, 32 added. It is positive, and no more than 1 comes to (proofs/Range.antt)
+unfoldable pub valueAt : ℕ → ℕ → ℕ
+unfolding slopeAt positive
+valueAt i d = positive (step d 24 (number i 0) (slopeAt i d))
 
--- to the nearest float: in the binade below, whose floats lie twice as close, or in the binade itself
-unfoldable pub nearest : Row → ℕ → ℕ
-nearest r y = r .base + min (y / 2 ^ 6) ((y + (2 ^ 30 + 2 ^ 5)) / 2 ^ 7)
-
--- |x| between 2^-13 and 10, by its pattern a
+-- |x| between 2^-13 and 10, by its pattern a. The floats of the binade are 2^7 units apart, those of the binade below 2^6; of the two patterns the
+-- lower one is right
 unfoldable pub between : ℕ → ℕ
-unfolding rowOf valueAt nearest
+unfolding valueAt
 between a =
-    let r = rowOf ((a - low) / 2 ^ 18) in
-    nearest r (valueAt r (a % 2 ^ 18))
+    let y = valueAt ((a - low) / 2 ^ 21) (a % 2 ^ 21) in
+    (min (a / 2 ^ 23) 126 - 2) * 2 ^ 23 + min y ((y + (2 ^ 30 + 2 ^ 5)) / 2) / 2 ^ 6
 
--- the sign of b is kept: s times 2^31
+-- the sign of x is kept
 unfoldable pub tanhBits : ℕ → ℕ
 unfolding between
 tanhBits b =
