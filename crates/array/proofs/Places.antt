@@ -1,28 +1,25 @@
 -- Where the parts' numbers lie: one after the other, none in common. So what one stage changes leaves the memories of all others. Assumes nothing.
-use mathlib.Core.Path.{_≡_, refl, sym, _∙_, ap}
+use mathlib.Core.Path.{_≡_}
 use mathlib.Core.List.{List, [], _∷_}
 use mathlib.Core.Logic.{_⊎_, inl, inr, ⊎-elim}
 use mathlib.Core.Bool.{Bool, true, false, cond}
 use lib.Dec.{ltb}
 use borrow.Author.Tests.{lt-ltb, le-ltb}
-use Prim.Native.Nat.{ℕ, zero, suc, _+_, _-_, _*_, _≤_, _<_, min, max}
+use Prim.Native.Nat.{ℕ, zero, suc, _+_, _-_, _≤_, _<_}
 use native.Mathlib.Nat.{not-suc-le-zero, le-of-suc-le-suc}
 use native.Mathlib.Omega.{arith}
 use lib.ListN.{length, getD, take}
 use lib.Ieee.{Float, nan}
 use Rattle.lists.specs.Region.{Apart, Free}
 use Rattle.lists.proofs.Nums.{le-or-lt}
-use Rattle.lists.proofs.Parts.{part-free}
 use Rattle.lists.proofs.Tab.{tab-ext}
-use Rattle.ring.specs.Memory.{Memory}
-use Rattle.shape.specs.Counts.{historyCount}
 use Rattle.description.specs.Numbers.{layerCount}
 use Rattle.description.specs.Parts.{partsOf}
 use Rattle.description.specs.Sizes.{historiesOf, positionsOf, total, placeOf, placeAt}
 use Rattle.description.specs.declared.parts.Part.{Part}
-use Rattle.description.specs.declared.parts.Part.the-variants.{Absent, There}
+use Rattle.description.specs.declared.parts.Part.the-variants.{Absent}
 use Rattle.description.specs.declared.places.Place.{Place}
-use Rattle.slot.specs.View.{memoryIn}
+use Rattle.slot.proofs.Trace.{memory-kept}
 use Rattle.array.specs.Stages.{partAt, firstPart, partCount, stageCount}
 use Rattle.array.proofs.Views.{parts-length}
 use Rattle.array.specs.Memories.{memoryOfPart, memoriesOf}
@@ -53,18 +50,6 @@ module _ (f : Part → ℕ) where
   total-le [] (suc i) = omega arith
   total-le (p ∷ ps) zero = omega arith
   total-le (p ∷ ps) (suc i) = let e = total-le ps i in omega arith
-
--- ---- what a part remembers is kept where its numbers are
-module _ (P Q : ℕ → Type 0) (histories histories′ : List Float) (positions positions′ : List ℕ)
-    (kept : Free nan P histories histories′) (kept-places : Free 0 Q positions positions′) where
-  pub memory-kept : (p : Part) (at : Place) → at .histories + historiesOf p ≤ length histories
-      → ((i : ℕ) → at .histories ≤ i → i < at .histories + historiesOf p → P i)
-      → ((i : ℕ) → at .positions ≤ i → i < at .positions + positionsOf p → Q i)
-      → memoryIn p at histories′ positions′ ≡ memoryIn p at histories positions
-  unfolding memoryIn historiesOf positionsOf
-  memory-kept Absent at b h k = refl
-  memory-kept (There sh) at b h k =
-      rw (part-free nan (at .histories) (historyCount sh) kept h b, kept-places .is (at .positions) (k (at .positions) (omega arith) (omega arith)))
 
 -- ---- stages
 pub first-mono : (j k : ℕ) → j ≤ k → firstPart j ≤ firstPart k
@@ -123,7 +108,7 @@ module _ (d : List ℕ) (k : ℕ) (histories histories′ : List Float) (positio
       (λ (l : suc j ≤ k). inl (total-mono f ps (suc i) (firstPart k) (omega (arith, parts-end d j, first-mono (suc j) k l))))
       (λ (l : k < suc j). inr (total-mono f ps (firstPart (suc k)) i (omega (arith, first-mono (suc k) j (omega (arith, l, lt-of k j l ne))))))
       (le-or-lt (suc j) k) in
-      memory-kept (OutsideHistories d k) (OutsidePositions d k) histories histories′ positions positions′ kept kept-places (getD ps i Absent) _
+      memory-kept kept kept-places (getD ps i Absent) _
       (omega (arith, more, whole, long))
       (λ n a b. ⊎-elim (λ l. omega (arith, more, a, b, l)) (λ l. omega (arith, more, a, b, l)) (where-is historiesOf))
       (λ n a b. ⊎-elim (λ l. omega (arith, more′, a, b, l)) (λ l. omega (arith, more′, a, b, l)) (where-is positionsOf))
