@@ -1,0 +1,3 @@
+pub mod CaseA
+pub mod Views
+pub mod Places

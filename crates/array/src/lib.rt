@@ -1,0 +1,1 @@
+// Carries array.rs. Document 01, 'The recurrence' (Array), 'Plans'.

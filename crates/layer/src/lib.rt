@@ -1,0 +1,1 @@
+// Carries layer.rs. Document 01, 'The recurrence' (Layer).
