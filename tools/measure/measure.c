@@ -1,5 +1,5 @@
 /* Measures the proved exp and tanh, linked from target/staticlib/libwavenet.a, against an independent value of higher precision on bit patterns:
- * long double (64 digits) for every input, and MPFR (200 digits) wherever that cannot tell which float is the nearest.
+ * double (53 digits) for every input, and MPFR (200 digits) wherever the float nearest to that is in doubt.
  * For each function: how many floats lie between the result and the correctly rounded value, how far the result is from the true value in units of
  * the float spacing there, and the worst inputs. Every stated fact is tried on every pattern as well.
  *
@@ -37,10 +37,11 @@ static float by_mpfr(int which, float x) {
     return f;
 }
 
-static float nearest(int which, float x, long double *value) {
-    long double v = which ? tanhl(x) : expl(x);
+/* the C library's double is within a few of its own last digits; a margin of 2^-46 is sixty-four of them */
+static float nearest(int which, float x, double *value) {
+    double v = which ? tanh(x) : exp(x);
     *value = v;
-    float low = (float)(v * (1 - 0x1p-58L)), high = (float)(v * (1 + 0x1p-58L));
+    float low = (float)(v * (1 - 0x1p-46)), high = (float)(v * (1 + 0x1p-46));
     return low == high ? low : by_mpfr(which, x);
 }
 
@@ -49,7 +50,7 @@ static int holds(int which, float x, float y) {
     if (isnan(y)) return 0;
     if (!which) return !signbit(y) && (x < 89 || y == INFINITY) && (x > -104 || to_bits(y) == 0) && (x != 0 || y == 1);
     float m = fabsf(x);
-    return fabsf(y) <= 1 && (m > 0x1p-13f || to_bits(y) == to_bits(x)) && (m < 10 || y == copysignf(1, x)) && to_bits(wavenet_tanh(-x)) == (to_bits(y) ^ 0x80000000u);
+    return fabsf(y) <= 1 && (m > 0x1p-13f || to_bits(y) == to_bits(x)) && (m < 10 || y == copysignf(1, x)) && (signbit(x) || to_bits(wavenet_tanh(-x)) == (to_bits(y) ^ 0x80000000u));
 }
 
 static void one(Work *w, uint32_t b) {
@@ -57,14 +58,15 @@ static void one(Work *w, uint32_t b) {
     float x = of_bits(b), y = w->which ? wavenet_tanh(x) : wavenet_exp(x);
     if (!holds(w->which, x, y)) t->broken++;
     if (isnan(x)) return;
-    long double v;
+    double v;
     float right = nearest(w->which, x, &v);
     int64_t far = llabs(place(y) - place(right));
     t->floats[far > 3 ? 3 : far]++;
     if (far > t->far) { t->far = (int)far; t->far_at = b; }
     if (isinf(right) || isinf(y)) return;
-    int e; frexpl(v, &e);
-    double error = (double)(fabsl((long double)y - v) / ldexpl(1, (e < -125 ? -125 : e) - 24));
+    int e;
+    frexp(v, &e);
+    double error = fabs((double)y - v) / ldexp(1, (e < -125 ? -125 : e) - 24);
     t->bins[error >= 1 ? BINS : (int)(error * BINS)]++;
     if (error > t->worst) { t->worst = error; t->worst_at = b; }
 }
@@ -74,7 +76,7 @@ static void *run(void *p) {
     uint64_t count = 0;
     for (uint64_t b = w->from; b < w->to; b += w->stride) {
         one(w, (uint32_t)b);
-        if (++count == 1 << 20) { __atomic_add_fetch(&done, count * w->stride, __ATOMIC_RELAXED); count = 0;
+        if (++count == 1 << 20) { __atomic_add_fetch(&done, count * (w->stride / THREADS), __ATOMIC_RELAXED); count = 0;
             if (w->from == 0) fprintf(stderr, "\r%s: %3.0f %%  ", w->which ? "tanh" : "exp", 100.0 * (double)done / 4294967296.0); }
     }
     mpfr_free_cache();

@@ -35,8 +35,8 @@ def main():
         f.write(chart("exp", r["exp"]["bins"], 0) + "\n" + chart("tanh", r["tanh"]["bins"], W + 2 * PAD) + "\n</svg>\n")
     with open("docs/exp-tanh.md", "w") as f:
         f.write("# exp and tanh, measured on every float\n\n")
-        f.write("The proved code, linked from its static library, on all 2^32 bit patterns against long double, and MPFR with 200 digits wherever that\n")
-        f.write("cannot tell which float is the nearest. `bash tools/measure/run.sh 1` makes this page and the figure.\n\n")
+        f.write("The proved code, linked from its static library, on all 2^32 bit patterns against double, and MPFR with 200 digits wherever the float\n")
+        f.write("nearest to that is in doubt. `bash tools/measure/run.sh 1` makes this page and the figure.\n\n")
         f.write("| floats between the result and the correctly rounded value | 0 | 1 | 2 | more | largest true error, in float spacings | stated facts broken |\n|---|---|---|---|---|---|---|\n")
         for n in ("exp", "tanh"):
             t = r[n]
