@@ -1,3 +1,4 @@
 pub mod CaseA
 pub mod Views
 pub mod Places
+pub mod Turning
