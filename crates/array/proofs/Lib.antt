@@ -2,3 +2,4 @@ pub mod CaseA
 pub mod Views
 pub mod Places
 pub mod Turning
+pub mod Ended
