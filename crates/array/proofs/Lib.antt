@@ -1,3 +1,5 @@
 pub mod CaseA
 pub mod Views
 pub mod Places
+pub mod Turning
+pub mod Ended

@@ -5,10 +5,10 @@ use mathlib.Core.Logic.{_⊎_, inl, inr, ⊎-elim}
 use mathlib.Core.Bool.{Bool, true, false, cond}
 use lib.Dec.{ltb}
 use borrow.Author.Tests.{lt-ltb, le-ltb}
-use Prim.Native.Nat.{ℕ, zero, suc, _+_, _-_, _≤_, _<_}
+use Prim.Native.Nat.{ℕ, zero, suc, _+_, _-_, _*_, _≤_, _<_}
 use native.Mathlib.Nat.{not-suc-le-zero, le-of-suc-le-suc}
 use native.Mathlib.Omega.{arith}
-use lib.ListN.{length, getD, take}
+use lib.ListN.{length, getD, take, List·getD-eq-default}
 use lib.Ieee.{Float, nan}
 use Rattle.lists.specs.Region.{Apart, Free}
 use Rattle.lists.proofs.Nums.{le-or-lt}
@@ -19,9 +19,11 @@ use Rattle.description.specs.Sizes.{historiesOf, positionsOf, total, placeOf, p
 use Rattle.description.specs.declared.parts.Part.{Part}
 use Rattle.description.specs.declared.parts.Part.the-variants.{Absent}
 use Rattle.description.specs.declared.places.Place.{Place}
+use Rattle.slot.specs.View.{memoryIn}
 use Rattle.slot.proofs.Trace.{memory-kept}
 use Rattle.array.specs.Stages.{partAt, firstPart, partCount, stageCount}
 use Rattle.array.proofs.Views.{parts-length}
+use Rattle.array.specs.Turn.{startOf, OutsideHistories, OutsidePositions}
 use Rattle.array.specs.Memories.{memoryOfPart, memoriesOf}
 
 -- ---- sums of the first parts
@@ -79,16 +81,18 @@ parts-in d (suc l) h =
     (λ (q : l < layerCount d). rw (lt-ltb l (layerCount d) q) (omega (arith, parts-length d)))
     (le-or-lt (layerCount d) l)
 
--- where stage k's numbers start
-abbrev pub startOf : List ℕ → ℕ → Place
-startOf d k = placeAt d (firstPart k)
+first-last : (d : List ℕ) → 12 * layerCount d + 2 ≤ firstPart (stageCount d)
+unfolding firstPart
+first-last d = let e : layerCount d + 2 ≡ suc (layerCount d + 1) = omega arith in rw e (omega arith)
 
--- a place outside of stage k's histories, and of its positions
-abbrev pub OutsideHistories : List ℕ → ℕ → ℕ → Type 0
-OutsideHistories d k i = Apart (startOf d k .histories) (startOf d (suc k) .histories - startOf d k .histories) i 1
-
-abbrev pub OutsidePositions : List ℕ → ℕ → ℕ → Type 0
-OutsidePositions d k i = Apart (startOf d k .positions) (startOf d (suc k) .positions - startOf d k .positions) i 1
+-- past the last stage there are no parts
+beyond-same : (d : List ℕ) (j : ℕ) → stageCount d ≤ j → (histories histories′ : List Float) (positions positions′ : List ℕ)
+    → memoriesOf d histories′ positions′ j ≡ memoriesOf d histories positions j
+unfolding memoriesOf memoryOfPart partAt memoryIn
+beyond-same d j l histories histories′ positions positions′ =
+    tab-ext (record { history = []; place = 0 }) (partCount d j) _ _ (λ i h.
+    let far : length (partsOf d) ≤ firstPart j + i = omega (arith, parts-length d, first-mono (stageCount d) j l, first-last d) in
+    rw (List·getD-eq-default (partsOf d) Absent far))
 
 module _ (d : List ℕ) (k : ℕ) (histories histories′ : List Float) (positions positions′ : List ℕ)
     (long : total historiesOf (partsOf d) ≤ length histories)
@@ -121,3 +125,10 @@ module _ (d : List ℕ) (k : ℕ) (histories histories′ : List Float) (positio
   unfolding memoriesOf
   stage-kept j ne h =
       tab-ext (record { history = []; place = 0 }) (partCount d j) _ _ (λ i l. part-kept j (firstPart j + i) ne h (omega arith) (omega (arith, l)))
+
+  -- also past the last stage, where there is nothing to remember
+  pub every-stage-kept : (j : ℕ) → (j ≡ k → ⊥) → memoriesOf d histories′ positions′ j ≡ memoriesOf d histories positions j
+  every-stage-kept j ne = ⊎-elim (λ (l : stageCount d ≤ j). nothing j l) (λ (l : j < stageCount d). stage-kept j ne l) (le-or-lt (stageCount d) j)
+    where
+      nothing : (j : ℕ) → stageCount d ≤ j → memoriesOf d histories′ positions′ j ≡ memoriesOf d histories positions j
+      nothing j l = beyond-same d j l histories histories′ positions positions′

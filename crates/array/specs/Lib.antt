@@ -4,3 +4,4 @@ pub mod Planar
 pub mod Lent
 pub mod Refusals
 pub mod Calls
+pub mod Turn
