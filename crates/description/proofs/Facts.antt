@@ -67,13 +67,29 @@ refusal-first : (d : List ℕ) → refusalOf d ≡ numberFrom 0 (testsOf d)
 unfolding refusalOf testsOf numberFrom
 refusal-first d = refl
 
+five : (a b c e f : Bool) → cond a 1 (cond b 2 (cond c 3 (cond e 4 (cond f 5 0)))) ≤ 5
+five true b c e f = omega arith
+five false true c e f = omega arith
+five false false true e f = omega arith
+five false false false true f = omega arith
+five false false false false true = omega arith
+five false false false false false = omega arith
+
+pub refusal-exactly-when : (d : List ℕ) (k : ℕ) → (refusalOf d ≡ k + 1) ↔ First (testsOf d) k
+refusal-exactly-when d k =
+    (
+      λ e. first-of 0 k (testsOf d) (sym (refusal-first d) ∙ e ∙ omega arith),
+      λ f. refusal-first d ∙ of-first 0 k (testsOf d) f ∙ omega arith
+    )
+
 -- the number k + 1 is given exactly when its test holds and none of the lower ones
 pub given-exactly-when : (d : List ℕ) {r : Checked} → Answers d r → (k : ℕ) → (numberOf r ≡ k + 1) ↔ First (testsOf d) k
 given-exactly-when d a k =
-    (
-      λ e. first-of 0 k (testsOf d) (sym (refusal-first d) ∙ sym (a .number) ∙ e ∙ omega arith),
-      λ f. a .number ∙ refusal-first d ∙ of-first 0 k (testsOf d) f ∙ omega arith
-    )
+    (λ e. refusal-exactly-when d k .0 (sym (a .number) ∙ e), λ f. a .number ∙ refusal-exactly-when d k .1 f)
+
+pub refusal-most : (d : List ℕ) → refusalOf d ≤ 5
+unfolding refusalOf
+refusal-most d = five (refused1 d) (refused2 d) (refused3 d) (refused4 d) (refused5 d)
 
 -- none is given exactly when no test holds
 none-from : (n : ℕ) (tests : List Bool) → numberFrom n tests ≡ 0 → (k : ℕ) → getD tests k false ≡ false
