@@ -76,11 +76,10 @@ five false false false false true = omega arith
 five false false false false false = omega arith
 
 pub refusal-exactly-when : (d : List ℕ) (k : ℕ) → (refusalOf d ≡ k + 1) ↔ First (testsOf d) k
-refusal-exactly-when d k =
-    (
-      λ e. first-of 0 k (testsOf d) (sym (refusal-first d) ∙ e ∙ omega arith),
-      λ f. refusal-first d ∙ of-first 0 k (testsOf d) f ∙ omega arith
-    )
+refusal-exactly-when d k = (
+  λ e. first-of 0 k (testsOf d) (sym (refusal-first d) ∙ e ∙ omega arith),
+  λ f. refusal-first d ∙ of-first 0 k (testsOf d) f ∙ omega arith,
+)
 
 -- the number k + 1 is given exactly when its test holds and none of the lower ones
 pub given-exactly-when : (d : List ℕ) {r : Checked} → Answers d r → (k : ℕ) → (numberOf r ≡ k + 1) ↔ First (testsOf d) k
@@ -106,11 +105,10 @@ from-none n (true ∷ tests) h = no (sym (h 0))
 from-none n (false ∷ tests) h = from-none (n + 1) tests (λ k. h (suc k))
 
 pub sound-exactly-when : (d : List ℕ) {r : Checked} → Answers d r → (numberOf r ≡ 0) ↔ ((k : ℕ) → getD (testsOf d) k false ≡ false)
-sound-exactly-when d a =
-    (
-      λ e. none-from 0 (testsOf d) (sym (refusal-first d) ∙ sym (a .number) ∙ e),
-      λ h. a .number ∙ refusal-first d ∙ from-none 0 (testsOf d) h
-    )
+sound-exactly-when d a = (
+  λ e. none-from 0 (testsOf d) (sym (refusal-first d) ∙ sym (a .number) ∙ e),
+  λ h. a .number ∙ refusal-first d ∙ from-none 0 (testsOf d) h,
+)
 
 -- equal lists of the five values, equal sizes
 same-sizes : (s t : Sizes) → listed s ≡ listed t → s ≡ t
@@ -122,8 +120,8 @@ same-sizes s t e =
     let x : s .widest ≡ t .widest = cc in
     let y : s .depth ≡ t .depth = cc in
     let q : _≡_ {A = Sizes}
-        (record { weights = s .weights; histories = s .histories; positions = s .positions; widest = s .widest; depth = s .depth })
-        (record { weights = t .weights; histories = t .histories; positions = t .positions; widest = t .widest; depth = t .depth }) = rw (w, h, p, x, y) in
+    (record { weights = s .weights; histories = s .histories; positions = s .positions; widest = s .widest; depth = s .depth })
+    (record { weights = t .weights; histories = t .histories; positions = t .positions; widest = t .widest; depth = t .depth }) = rw (w, h, p, x, y) in
     q
 
 empty : (s : Sizes) → [] ≡ listed s → ⊥

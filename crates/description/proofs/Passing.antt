@@ -44,7 +44,7 @@ past-origin p =
       zero-add (historiesOf p),
       add-zero (historiesOf p),
       zero-add (positionsOf p),
-      add-zero (positionsOf p)
+      add-zero (positionsOf p),
     )
 
 past-origin-low : (p : Part) → Fits p → Low 0x40_0000 (pastOf origin p)

@@ -77,8 +77,8 @@ unfolding layerOf layerLimits breaksLayer breaksZeroRule breaksParts
 layer-ranges d l e =
     let range = left-false (breaksRange layerLimits d (recordAt l)) (breaksZeroRule d (recordAt l)) e in
     let zeros = right-false (breaksRange layerLimits d (recordAt l)) (breaksZeroRule d (recordAt l)) e in
-    let parts = right-false (breaksActivations d (recordAt l)) (breaksParts d (recordAt l)) 
-        (left-false (breaksActivations d (recordAt l) || breaksParts d (recordAt l)) (breaksSites d (recordAt l)) zeros) in
+    let parts = right-false (breaksActivations d (recordAt l)) (breaksParts d (recordAt l))
+    (left-false (breaksActivations d (recordAt l) || breaksParts d (recordAt l)) (breaksSites d (recordAt l)) zeros) in
     let at = at-place layerLimits d (recordAt l) range in
     record {
       bottleneck = inside 1 32 _ (at 0 (lit< tt));
@@ -89,15 +89,15 @@ layer-ranges d l e =
       layer1x1-groups = inside 0 32 _ (at 10 (lit< tt)) .most;
       head1x1-width = inside 0 32 _ (at 12 (lit< tt)) .most;
       head1x1-groups = inside 0 32 _ (at 13 (lit< tt)) .most;
-      head1x1-there = 
-        both (number d l 12) (number d l 13)
-        (right-false
-        (none (number d l 10) && some (number d l 11) || none (number d l 12) && (some (number d l 13) || some (number d l 14)))
-        (some (number d l 12) && none (number d l 13))
-        parts);
+      head1x1-there =
+          both (number d l 12) (number d l 13)
+          (right-false
+          (none (number d l 10) && some (number d l 11) || none (number d l 12) && (some (number d l 13) || some (number d l 14)))
+          (some (number d l 12) && none (number d l 13))
+          parts);
       site-groups =
-        sites-le d (recordAt l)
-        (λ i lt. inside 0 32 _ (rw (site-limits i lt) at (at (15 + i) (omega arith))) .most);
+          sites-le d (recordAt l)
+          (λ i lt. inside 0 32 _ (rw (site-limits i lt) at (at (15 + i) (omega arith))) .most);
     }
 
 pub layers-between : (d : List ℕ) → breaksRange arrayLimits d 0 ≡ false → Between 1 24 (layerCount d)

@@ -261,7 +261,7 @@ module _ (d : List ℕ) (ok : refusalOf d ≡ 0) where
       omega (
         arith,
         le-largest (arrayWidths (arrayOf d)) i,
-        largest-append (arrayWidths (arrayOf d)) (eachLayer (λ l. layerWidths (layerOf d l)) (layerCount d))
+        largest-append (arrayWidths (arrayOf d)) (eachLayer (λ l. layerWidths (layerOf d l)) (layerCount d)),
       )
 
   pub layer-width-le : (l i : ℕ) → l < layerCount d → i < 3 → getD (layerWidths (layerOf d l)) i 0 ≤ widestOf d
@@ -270,7 +270,7 @@ module _ (d : List ℕ) (ok : refusalOf d ≡ 0) where
       omega (
         arith,
         layer-width (layerCount d) l i lt it,
-        largest-append (arrayWidths (arrayOf d)) (eachLayer (λ l. layerWidths (layerOf d l)) (layerCount d))
+        largest-append (arrayWidths (arrayOf d)) (eachLayer (λ l. layerWidths (layerOf d l)) (layerCount d)),
       )
 
   -- the widths of one layer, and of the array
@@ -298,7 +298,7 @@ module _ (d : List ℕ) (ok : refusalOf d ≡ 0) where
         arith,
         largest-append (eachLayer (λ l. layerWidths (layerOf d l)) n) (layerWidths (layerOf d n)),
         layers-most n (omega arith),
-        layer-most n le
+        layer-most n le,
       )
 
   pub widest-most : widestOf d ≤ 64
@@ -308,7 +308,7 @@ module _ (d : List ℕ) (ok : refusalOf d ≡ 0) where
         arith,
         largest-append (arrayWidths (arrayOf d)) (eachLayer (λ l. layerWidths (layerOf d l)) (layerCount d)),
         array-most,
-        layers-most (layerCount d) (omega arith)
+        layers-most (layerCount d) (omega arith),
       )
 
   pub widest-least : 1 ≤ widestOf d

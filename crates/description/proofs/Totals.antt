@@ -70,7 +70,7 @@ past-take place ps k lt =
       total-take positionsOf ps k lt,
       add-assoc (place .weights) (total weightsOf (take k ps)) (weightsOf (getD ps k Absent)),
       add-assoc (place .histories) (total historiesOf (take k ps)) (historiesOf (getD ps k Absent)),
-      add-assoc (place .positions) (total positionsOf (take k ps)) (positionsOf (getD ps k Absent))
+      add-assoc (place .positions) (total positionsOf (take k ps)) (positionsOf (getD ps k Absent)),
     )
 
 pub past-none : (place : Place) → place ≡ pastAll place []

@@ -26,15 +26,14 @@ seven-by n true false e le = (λ q. absurd (omega arith), λ q. absurd (let z : 
 seven-by n false t e le = (λ q. absurd (omega arith), λ q. absurd (let z : _≡_ {A = ℕ} 0 1 = cc (e, eq-eqb n 0 (q .0)) in omega arith))
 
 module _ {d : List ℕ} {histories : List Float} {positions : List ℕ} {r : ℕ} {histories′ : List Float} {positions′ : List ℕ}
-  (reset : Resets d histories positions r histories′ positions′) where
+    (reset : Resets d histories positions r histories′ positions′) where
   -- 1 to 5 exactly when the description is refused so
   pub given-exactly-when : (k : ℕ) → k < 5 → (r ≡ k + 1) ↔ First (testsOf d) k
   unfolding resetNumber
   given-exactly-when k lt =
-      let by = low-by (refusalOf d) (k + 1) (eqb (refusalOf d) 0) (refused7 d (length histories) (length positions)) refl (omega arith) (omega arith) in
-      (
+      let by = low-by (refusalOf d) (k + 1) (eqb (refusalOf d) 0) (refused7 d (length histories) (length positions)) refl (omega arith) (omega arith) in (
         λ e. refusal-exactly-when d k .0 (by .0 (sym (reset .number) ∙ e)),
-        λ f. reset .number ∙ by .1 (refusal-exactly-when d k .1 f)
+        λ f. reset .number ∙ by .1 (refusal-exactly-when d k .1 f),
       )
 
   -- 7 exactly when the description is not refused and a buffer's length differs from its size
@@ -52,8 +51,7 @@ module _ {d : List ℕ} {histories : List Float} {positions : List ℕ} {r : ℕ
   pub resets-agree : {s : ℕ} {histories″ : List Float} {positions″ : List ℕ} → Resets d histories positions s histories″ positions″
       → (r ≡ s) × (histories′ ≡ histories″) × (positions′ ≡ positions″)
   resets-agree other =
-      let e : r ≡ _ = reset .number ∙ sym (other .number) in
-      (
+      let e : r ≡ _ = reset .number ∙ sym (other .number) in (
         e,
         reset .silent ∙ rw e (sym (other .silent)),
         reset .rewound ∙ rw e (sym (other .rewound)),

@@ -15,7 +15,8 @@ use description::check::check;
 use description::numbers::SLOTS;
 use description::parts::Part;
 use description::read::part_at;
-use description::records::{read_array, ArrayRecord};
+use description::records::ArrayRecord;
+use description::records::read_array;
 
 // Every number +0.
 fn silence(histories: &mut [f32])
