@@ -2,7 +2,7 @@
 use mathlib.Core.Path.{_≡_, refl}
 use mathlib.Core.List.{List, [], _∷_, _++_}
 use Prim.Native.Nat.{ℕ}
-use lib.ListN.{replicate, set}
+use lib.ListN.{replicate}
 use Rattle.shape.specs.Counts.{historyCount, kernelCount, ringLength, weightCount}
 use Rattle.description.specs.Answers.{listed}
 use Rattle.description.specs.Limits.{arrayLimits, breaksRange, layerLimits}

@@ -1,6 +1,6 @@
 -- The theorems on the answers of the check and of `sizes`: a number is given exactly when its test holds and no lower one, both ways; any two results
 -- agree; the values are the formulas. Assumes nothing.
-use mathlib.Core.Path.{_≡_, refl, sym, _∙_, ap, subst}
+use mathlib.Core.Path.{_≡_, refl, sym, _∙_, ap}
 use mathlib.Core.Bool.{Bool, true, false, cond}
 use mathlib.Core.List.{List, [], _∷_}
 use mathlib.Core.Logic.{_↔_}
@@ -8,7 +8,7 @@ use Prim.Native.Nat.{ℕ, zero, suc, _+_, _≤_, _<_}
 use native.Mathlib.Nat.{not-suc-le-zero}
 use native.Mathlib.Omega.{arith}
 use lib.Dec.{eqb}
-use lib.ListN.{getD, length}
+use lib.ListN.{getD}
 use borrow.Author.Tests.{eq-eqb, ne-eqb}
 use Rattle.description.specs.Answers.{Answers, listed, numberOf, valuesOf}
 use Rattle.description.specs.Refusals.{refusalOf, refused1, refused2, refused3, refused4, refused5}

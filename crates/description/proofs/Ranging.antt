@@ -1,13 +1,13 @@
 -- What the tests of refusal 2 leave of the records, where they fail. Assumes nothing.
-use mathlib.Core.Path.{_≡_, refl, sym, _∙_, ap}
-use mathlib.Core.Bool.{Bool, true, false, not, _&&_, _||_}
+use mathlib.Core.Path.{_≡_, refl}
+use mathlib.Core.Bool.{false, _&&_, _||_}
 use mathlib.Core.List.{List, [], _∷_}
-use Prim.Native.Nat.{ℕ, zero, suc, _+_, _*_, _≤_, _<_}
+use Prim.Native.Nat.{ℕ, zero, suc, _+_, _≤_, _<_}
 use native.Mathlib.Nat.{add-assoc, add-zero, not-suc-le-zero}
 use native.Mathlib.Omega.{arith}
-use lib.Dec.{ltb, eqb, lit<}
+use lib.Dec.{ltb, lit<}
 use lib.ListN.{getD, length}
-use borrow.Author.Tests.{ltb-false, lt-ltb, ne-eqb, eqb-true}
+use borrow.Author.Tests.{ltb-false, ne-eqb}
 use Rattle.description.specs.Numbers.{layerCount, number, recordAt}
 use Rattle.description.specs.Limits.{arrayLimits, breaksRange, layerLimits, outside}
 use Rattle.description.specs.ZeroRules.{breaksActivations, breaksParts, breaksSites, breaksZeroRule, none, some}

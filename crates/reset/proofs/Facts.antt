@@ -1,6 +1,6 @@
 -- The theorems on reset: each number is given exactly when its test holds and no lower one, both ways; refused, every buffer is what it was; any two
 -- results agree. Assumes nothing.
-use mathlib.Core.Path.{_≡_, refl, sym, _∙_, ap}
+use mathlib.Core.Path.{_≡_, refl, sym, _∙_}
 use mathlib.Core.Bool.{Bool, true, false, cond}
 use mathlib.Core.List.{List}
 use mathlib.Core.Logic.{_↔_}
