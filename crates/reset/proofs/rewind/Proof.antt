@@ -35,62 +35,79 @@ abbrev μ-loop : tie.MeasureT-loop
 μ-loop description a positions₀ count at₀ i₀ positions at i = count - i
 
 mul-count : tie.Need-mul-count Inv-loop μ-loop
-mul-count c = omega (arith, layers-of (c .before .before .before .args .description .now) (c .before .before .before .pre .1 .0), layers-are (c .before .before .before .args .description .now) (c .before .before .before .pre .0) .most)
+mul-count c =
+    let args = c .before .before .before .args in
+    let pre = c .before .before .before .pre in
+    omega (arith, layers-of (args .description .now) (pre .1 .0), layers-are (args .description .now) (pre .0) .most)
 
 add-count : tie.Need-add-count Inv-loop μ-loop
-add-count c = omega (arith, layers-of (c .before .before .before .args .description .now) (c .before .before .before .pre .1 .0), layers-are (c .before .before .before .args .description .now) (c .before .before .before .pre .0) .most)
+add-count c =
+    let args = c .before .before .before .args in
+    let pre = c .before .before .before .pre in
+    omega (arith, layers-of (args .description .now) (pre .1 .0), layers-are (args .description .now) (pre .0) .most)
 
 loop-holds : tie.Need-loop-holds Inv-loop μ-loop
 unfolding total startsOf
-loop-holds c = (
-  search needs,
-  (c .before .before .before .pre .0),
-  (c .before .before .before .pre .1 .0),
-  (c .before .before .before .pre .1 .1),
-  ap (λ (n : ℕ). 12 * n + 2) (layers-of (c .before .before .before .args .description .now) (c .before .before .before .pre .1 .0)),
-  refl,
-  refl,
-  refl,
-)
+loop-holds c =
+    let pre = c .before .before .before .pre in (
+      search needs,
+      (pre .0),
+      (pre .1 .0),
+      (pre .1 .1),
+      ap (λ (n : ℕ). 12 * n + 2) (layers-of (c .before .before .before .args .description .now) (pre .1 .0)),
+      refl,
+      refl,
+      refl,
+    )
 
 part-at-requires : tie.Need-part-at-requires Inv-loop μ-loop
 part-at-requires c κs = (c .before .loop .inv .1, (c .before .loop .inv .2, omega (arith, c .before .loop .inv .4, c .loop-test .taken)))
 
 rewind-part-requires : tie.Need-rewind-part-requires Inv-loop μ-loop
 rewind-part-requires c κs =
-    let lt : c .before .before .before .loop .i < length (partsOf (c .before .before .before .before .before .before .before .args .description .now)) = omega (arith, length-parts (c .before .before .before .before .before .before .before .args .description .now), c .before .before .before .loop .inv .4, c .before .before .loop-test .taken) in (
-      subst Fits (sym (c .before .part-at .ensures)) (part-in-range (c .before .before .before .before .before .before .before .args .description .now) (c .before .before .before .loop .inv .1) (c .before .before .before .loop .i)),
-      omega (arith, ap positionsOf (c .before .part-at .ensures), room (partsOf (c .before .before .before .before .before .before .before .args .description .now)) (c .before .before .before .before .before .before .before .args .positions .now) (c .before .before .before .loop .i) (c .before .before .before .loop .at) lt (c .before .before .before .loop .inv .3) (c .before .before .before .loop .inv .6), c .before .before .before .loop .inv .5),
+    let args = c .before .before .before .before .before .before .before .args in
+    let loop = c .before .before .before .loop in
+    let lt : loop .i < length (partsOf (args .description .now)) = omega (arith, length-parts (args .description .now), loop .inv .4, c .before .before .loop-test .taken) in (
+      subst Fits (sym (c .before .part-at .ensures)) (part-in-range (args .description .now) (loop .inv .1) (loop .i)),
+      omega (arith, ap positionsOf (c .before .part-at .ensures), room (partsOf (args .description .now)) (args .positions .now) (loop .i) (loop .at) lt (loop .inv .3) (loop .inv .6), loop .inv .5),
     )
 
 add-i : tie.Need-add-i Inv-loop μ-loop
-add-i c = omega (arith, c .before .before .before .before .before .before .loop .inv .4, layers-are (c .before .before .before .before .before .before .before .before .before .before .args .description .now) (c .before .before .before .before .before .before .loop .inv .1) .most)
+add-i c =
+    let loop = c .before .before .before .before .before .before .loop in
+    omega (arith, loop .inv .4, layers-are (c .before .before .before .before .before .before .before .before .before .before .args .description .now) (loop .inv .1) .most)
 
 loop-less : tie.Need-loop-less Inv-loop μ-loop
 loop-less c = search needs
 
 loop-again : tie.Need-loop-again Inv-loop μ-loop
 loop-again c =
-    let lt : c .before .before .before .before .before .before .loop .i < length (partsOf (c .before .before .before .before .before .before .before .before .before .before .args .description .now)) = omega (arith, length-parts (c .before .before .before .before .before .before .before .before .before .before .args .description .now), c .before .before .before .before .before .before .loop .inv .4, c .before .before .before .before .before .loop-test .taken) in
-    let e = c .before .before .rewind-part .ensures .1 ∙ ap (λ (p : Part). sets (c .before .before .before .before .before .before .loop .positions) (c .before .before .before .before .before .before .loop .at) (startOf p)) (c .before .before .before .before .part-at .ensures) in
-    let a = c .before .before .rewind-part .ensures .0 ∙ ap (λ (p : Part). c .before .before .before .before .before .before .loop .at + positionsOf p) (c .before .before .before .before .part-at .ensures) in (
+    let args = c .before .before .before .before .before .before .before .before .before .before .args in
+    let loop = c .before .before .before .before .before .before .loop in
+    let part-at = c .before .before .before .before .part-at in
+    let rewind-part = c .before .before .rewind-part in
+    let lt : loop .i < length (partsOf (args .description .now)) = omega (arith, length-parts (args .description .now), loop .inv .4, c .before .before .before .before .before .loop-test .taken) in
+    let e = rewind-part .ensures .1 ∙ ap (λ (p : Part). sets (loop .positions) (loop .at) (startOf p)) (part-at .ensures) in
+    let a = rewind-part .ensures .0 ∙ ap (λ (p : Part). loop .at + positionsOf p) (part-at .ensures) in (
       search needs,
-      c .before .before .before .before .before .before .loop .inv .1,
-      c .before .before .before .before .before .before .loop .inv .2,
-      c .before .before .before .before .before .before .loop .inv .3,
-      c .before .before .before .before .before .before .loop .inv .4,
-      ap length e ∙ length-sets (c .before .before .before .before .before .before .loop .positions) (c .before .before .before .before .before .before .loop .at) (startOf (getD (partsOf (c .before .before .before .before .before .before .before .before .before .before .args .description .now)) (c .before .before .before .before .before .before .loop .i) Absent)) ∙ c .before .before .before .before .before .before .loop .inv .5,
-      a ∙ next-at (partsOf (c .before .before .before .before .before .before .before .before .before .before .args .description .now)) (c .before .before .before .before .before .before .before .before .before .before .args .positions .now) (c .before .before .before .before .before .before .loop .i) (c .before .before .before .before .before .before .loop .at) lt (c .before .before .before .before .before .before .loop .inv .3) (c .before .before .before .before .before .before .loop .inv .6),
+      loop .inv .1,
+      loop .inv .2,
+      loop .inv .3,
+      loop .inv .4,
+      ap length e ∙ length-sets (loop .positions) (loop .at) (startOf (getD (partsOf (args .description .now)) (loop .i) Absent)) ∙ loop .inv .5,
+      a ∙ next-at (partsOf (args .description .now)) (args .positions .now) (loop .i) (loop .at) lt (loop .inv .3) (loop .inv .6),
       e
-          ∙ turn (partsOf (c .before .before .before .before .before .before .before .before .before .before .args .description .now)) (c .before .before .before .before .before .before .before .before .before .before .args .positions .now) (c .before .before .before .before .before .before .loop .i) (c .before .before .before .before .before .before .loop .at) lt (c .before .before .before .before .before .before .loop .inv .3) (c .before .before .before .before .before .before .loop .inv .6) (c .before .before .before .before .before .before .loop .inv .7)
-          ∙ ap (λ (n : ℕ). startsOf (take (c .before .before .before .before .before .before .loop .i + 1) (partsOf (c .before .before .before .before .before .before .before .before .before .before .args .description .now))) ++ drop n (c .before .before .before .before .before .before .before .before .before .before .args .positions .now)) (sym a),
+          ∙ turn (partsOf (args .description .now)) (args .positions .now) (loop .i) (loop .at) lt (loop .inv .3) (loop .inv .6) (loop .inv .7)
+          ∙ ap (λ (n : ℕ). startsOf (take (loop .i + 1) (partsOf (args .description .now))) ++ drop n (args .positions .now)) (sym a),
     )
 
 same-length : tie.Need-same-length Inv-loop μ-loop
 same-length c = search needs
 
 returns : tie.Need-returns Inv-loop μ-loop
-returns c = rewound-all (partsOf (c .before .before .before .before .before .args .description .now)) (c .before .before .before .before .before .args .positions .now) (c .before .loop .i) (c .before .loop .at) (omega (arith, length-parts (c .before .before .before .before .before .args .description .now), c .before .loop .inv .4, c .loop-test .left)) (c .before .loop .inv .3) (c .before .loop .inv .6) (c .before .loop .inv .7)
+returns c =
+    let args = c .before .before .before .before .before .args in
+    rewound-all (partsOf (args .description .now)) (args .positions .now) (c .before .loop .i) (c .before .loop .at) (omega (arith, length-parts (args .description .now), c .before .loop .inv .4, c .loop-test .left)) (c .before .loop .inv .3) (c .before .loop .inv .6) (c .before .loop .inv .7)
 
 pub rewind-spec : {M : Type 1} → statement M
 rewind-spec =

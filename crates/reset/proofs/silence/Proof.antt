@@ -34,14 +34,15 @@ loop-less : tie.Need-loop-less Inv-loop μ-loop
 loop-less c = search needs
 
 loop-again : tie.Need-loop-again Inv-loop μ-loop
-loop-again c = (
-  search needs,
-  search needs,
-  search needs,
-  ap (λ (l : List Float). set l (c .before .loop .i) (ofBits binary32 0)) (c .before .loop .inv .3)
-      ∙ set-next (replicate (c .before .loop .i) (ofBits binary32 0)) (c .before .before .args .histories .now) (c .before .loop .i) (ofBits binary32 0) (length-replicate (c .before .loop .i) (ofBits binary32 0)) (omega arith)
-      ∙ ap (λ (l : List Float). l ++ drop (c .before .loop .i + 1) (c .before .before .args .histories .now)) (replicate-next (c .before .loop .i) (ofBits binary32 0)),
-)
+loop-again c =
+    let args = c .before .before .args in (
+      search needs,
+      search needs,
+      search needs,
+      ap (λ (l : List Float). set l (c .before .loop .i) (ofBits binary32 0)) (c .before .loop .inv .3)
+          ∙ set-next (replicate (c .before .loop .i) (ofBits binary32 0)) (args .histories .now) (c .before .loop .i) (ofBits binary32 0) (length-replicate (c .before .loop .i) (ofBits binary32 0)) (omega arith)
+          ∙ ap (λ (l : List Float). l ++ drop (c .before .loop .i + 1) (args .histories .now)) (replicate-next (c .before .loop .i) (ofBits binary32 0)),
+    )
 
 same-length : tie.Need-same-length Inv-loop μ-loop
 same-length c = search needs
@@ -49,8 +50,9 @@ same-length c = search needs
 returns : tie.Need-returns Inv-loop μ-loop
 unfolding silenceOf
 returns c =
-    let e : c .before .loop .i ≡ length (c .before .before .args .histories .now) = omega arith in
-    c .before .loop .inv .3 ∙ filled (replicate (c .before .loop .i) (ofBits binary32 0)) (c .before .before .args .histories .now) (c .before .loop .i) (omega arith) ∙ ap silenceOf e
+    let args = c .before .before .args in
+    let e : c .before .loop .i ≡ length (args .histories .now) = omega arith in
+    c .before .loop .inv .3 ∙ filled (replicate (c .before .loop .i) (ofBits binary32 0)) (args .histories .now) (c .before .loop .i) (omega arith) ∙ ap silenceOf e
 
 pub silence-spec : {M : Type 1} → statement M
 silence-spec =

@@ -53,7 +53,9 @@ breaks-range-requires c κs = search needs
 
 returns-3 : tie.Need-returns-3 Inv-loop μ-loop
 unfolding arrayLimits
-returns-3 c = broken-array (c .before .before .before .before .before .before .before .args .description .now) (long-enough (c .before .before .before .before .before .before .before .args .description .now) (c .before .before .before .before .before .if1 .left) (c .before .before .before .if2 .left)) (sym (c .before .breaks-range .ensures) ∙ c .if3 .taken)
+returns-3 c =
+    let args = c .before .before .before .before .before .before .before .args in
+    broken-array (args .description .now) (long-enough (args .description .now) (c .before .before .before .before .before .if1 .left) (c .before .before .before .if2 .left)) (sym (c .before .breaks-range .ensures) ∙ c .if3 .taken)
 
 read-array-requires : tie.Need-read-array-requires Inv-loop μ-loop
 read-array-requires c κs = search needs
@@ -64,16 +66,17 @@ start-requires c κs = subst ArrayRanges (sym (c .read-array .ensures)) (array-r
 
 loop-holds : tie.Need-loop-holds Inv-loop μ-loop
 unfolding arrayLimits anyBelow tallyAt
-loop-holds c = (
-  search needs,
-  refl,
-  long-enough (c .before .before .before .before .before .before .before .before .before .args .description .now) (c .before .before .before .before .before .before .before .if1 .left) (c .before .before .before .before .before .if2 .left),
-  c .before .before .before .before .before .if2 .left,
-  c .before .read-array .ensures,
-  sym (c .before .before .before .breaks-range .ensures) ∙ c .before .before .if3 .left,
-  refl,
-  c .start .ensures ∙ ap startOf (c .before .read-array .ensures),
-)
+loop-holds c =
+    let if2 = c .before .before .before .before .before .if2 in (
+      search needs,
+      refl,
+      long-enough (c .before .before .before .before .before .before .before .before .before .args .description .now) (c .before .before .before .before .before .before .before .if1 .left) (if2 .left),
+      if2 .left,
+      c .before .read-array .ensures,
+      sym (c .before .before .before .breaks-range .ensures) ∙ c .before .before .if3 .left,
+      refl,
+      c .start .ensures ∙ ap startOf (c .before .read-array .ensures),
+    )
 
 read-layer-requires : tie.Need-read-layer-requires Inv-loop μ-loop
 read-layer-requires c κs = omega arith
@@ -85,14 +88,19 @@ enum-told : tie.Need-enum-told Inv-loop μ-loop
 enum-told c = search needs
 
 returns-4 : tie.Need-returns-4 Inv-loop μ-loop
-returns-4 c = broken-layer (c .before .before .before .before .before .before .before .before .before .before .before .before .before .before .args .description .now) (c .before .before .before .before .loop .l) (c .before .before .before .before .loop .inv .2) (omega arith) (read-broken (c .before .before .before .before .before .before .before .before .before .before .before .before .before .before .args .description .now) (c .before .before .before .before .loop .l) (subst (LayerAnswers (c .before .before .before .before .before .before .before .before .before .before .before .before .before .before .args .description .now) (c .before .before .before .before .loop .l)) (c .enum-told .given .1) (c .before .before .read-layer .ensures)))
+returns-4 c =
+    let args = c .before .before .before .before .before .before .before .before .before .before .before .before .before .before .args in
+    let loop = c .before .before .before .before .loop in
+    broken-layer (args .description .now) (loop .l) (loop .inv .2) (omega arith) (read-broken (args .description .now) (loop .l) (subst (LayerAnswers (args .description .now) (loop .l)) (c .enum-told .given .1) (c .before .before .read-layer .ensures)))
 
 with-layer-requires : tie.Need-with-layer-requires Inv-loop μ-loop
 with-layer-requires c κs =
-    let w = read-whole (c .before .before .before .before .before .before .before .before .before .before .before .before .before .before .before .args .description .now) (c .before .before .before .before .before .loop .l) (subst (LayerAnswers (c .before .before .before .before .before .before .before .before .before .before .before .before .before .before .before .args .description .now) (c .before .before .before .before .before .loop .l)) (c .before .r .given .1) (c .before .before .before .read-layer .ensures)) in
-    let le : c .before .before .before .before .before .loop .l ≤ 24 = omega (arith, c .before .before .before .before .before .loop .inv .0, c .before .before .before .before .before .loop .inv .1, layers-between (c .before .before .before .before .before .before .before .before .before .before .before .before .before .before .before .args .description .now) (c .before .before .before .before .before .loop .inv .5) .most) in (
-      subst LowTally (sym (c .before .before .before .before .before .loop .inv .7)) (tally-low (c .before .before .before .before .before .before .before .before .before .before .before .before .before .before .before .args .description .now) (array-ranges (c .before .before .before .before .before .before .before .before .before .before .before .before .before .before .before .args .description .now) (c .before .before .before .before .before .loop .inv .5)) (c .before .before .before .before .before .loop .l) le (kept-layer (c .before .before .before .before .before .before .before .before .before .before .before .before .before .before .before .args .description .now) (c .before .before .before .before .before .loop .l) (c .before .before .before .before .before .loop .inv .6))),
-      (subst ArrayRanges (sym (c .before .before .before .before .before .loop .inv .4)) (array-ranges (c .before .before .before .before .before .before .before .before .before .before .before .before .before .before .before .args .description .now) (c .before .before .before .before .before .loop .inv .5)), subst LayerRanges (sym (w .1)) (layer-ranges (c .before .before .before .before .before .before .before .before .before .before .before .before .before .before .before .args .description .now) (c .before .before .before .before .before .loop .l) (w .0))),
+    let args = c .before .before .before .before .before .before .before .before .before .before .before .before .before .before .before .args in
+    let loop = c .before .before .before .before .before .loop in
+    let w = read-whole (args .description .now) (loop .l) (subst (LayerAnswers (args .description .now) (loop .l)) (c .before .r .given .1) (c .before .before .before .read-layer .ensures)) in
+    let le : loop .l ≤ 24 = omega (arith, loop .inv .0, loop .inv .1, layers-between (args .description .now) (loop .inv .5) .most) in (
+      subst LowTally (sym (loop .inv .7)) (tally-low (args .description .now) (array-ranges (args .description .now) (loop .inv .5)) (loop .l) le (kept-layer (args .description .now) (loop .l) (loop .inv .6))),
+      (subst ArrayRanges (sym (loop .inv .4)) (array-ranges (args .description .now) (loop .inv .5)), subst LayerRanges (sym (w .1)) (layer-ranges (args .description .now) (loop .l) (w .0))),
     )
 
 add-l : tie.Need-add-l Inv-loop μ-loop
@@ -103,28 +111,33 @@ loop-less c = search needs
 
 loop-again : tie.Need-loop-again Inv-loop μ-loop
 loop-again c =
-    let w = read-whole (c .before .before .before .before .before .before .before .before .before .before .before .before .before .before .before .before .args .description .now) (c .before .before .before .before .before .before .loop .l) (subst (LayerAnswers (c .before .before .before .before .before .before .before .before .before .before .before .before .before .before .before .before .args .description .now) (c .before .before .before .before .before .before .loop .l)) (c .before .before .r .given .1) (c .before .before .before .before .read-layer .ensures)) in (
+    let args = c .before .before .before .before .before .before .before .before .before .before .before .before .before .before .before .before .args in
+    let loop = c .before .before .before .before .before .before .loop in
+    let w = read-whole (args .description .now) (loop .l) (subst (LayerAnswers (args .description .now) (loop .l)) (c .before .before .r .given .1) (c .before .before .before .before .read-layer .ensures)) in (
       search needs,
-      c .before .before .before .before .before .before .loop .inv .1,
-      c .before .before .before .before .before .before .loop .inv .2,
-      c .before .before .before .before .before .before .loop .inv .3,
-      c .before .before .before .before .before .before .loop .inv .4,
-      c .before .before .before .before .before .before .loop .inv .5,
-      kept-more (c .before .before .before .before .before .before .before .before .before .before .before .before .before .before .before .before .args .description .now) (c .before .before .before .before .before .before .loop .l) (c .before .before .before .before .before .before .loop .inv .6) (w .0),
-      c .with-layer .ensures ∙ tally-step (c .before .before .before .before .before .before .before .before .before .before .before .before .before .before .before .before .args .description .now) (c .before .before .before .before .before .before .loop .l) (c .before .before .before .before .before .before .loop .inv .7) (c .before .before .before .before .before .before .loop .inv .4) (w .1),
+      loop .inv .1,
+      loop .inv .2,
+      loop .inv .3,
+      loop .inv .4,
+      loop .inv .5,
+      kept-more (args .description .now) (loop .l) (loop .inv .6) (w .0),
+      c .with-layer .ensures ∙ tally-step (args .description .now) (loop .l) (loop .inv .7) (loop .inv .4) (w .1),
     )
 
 answer-requires : tie.Need-answer-requires Inv-loop μ-loop
 answer-requires c κs =
-    let le : c .before .loop .l ≤ 24 = omega (arith, c .before .loop .inv .0, c .before .loop .inv .1, layers-between (c .before .before .before .before .before .before .before .before .before .before .before .args .description .now) (c .before .loop .inv .5) .most) in (
-      subst LowTally (sym (c .before .loop .inv .7)) (tally-low (c .before .before .before .before .before .before .before .before .before .before .before .args .description .now) (array-ranges (c .before .before .before .before .before .before .before .before .before .before .before .args .description .now) (c .before .loop .inv .5)) (c .before .loop .l) le (kept-layer (c .before .before .before .before .before .before .before .before .before .before .before .args .description .now) (c .before .loop .l) (c .before .loop .inv .6))),
-      subst ArrayRanges (sym (c .before .loop .inv .4)) (array-ranges (c .before .before .before .before .before .before .before .before .before .before .before .args .description .now) (c .before .loop .inv .5)),
+    let args = c .before .before .before .before .before .before .before .before .before .before .before .args in
+    let le : c .before .loop .l ≤ 24 = omega (arith, c .before .loop .inv .0, c .before .loop .inv .1, layers-between (args .description .now) (c .before .loop .inv .5) .most) in (
+      subst LowTally (sym (c .before .loop .inv .7)) (tally-low (args .description .now) (array-ranges (args .description .now) (c .before .loop .inv .5)) (c .before .loop .l) le (kept-layer (args .description .now) (c .before .loop .l) (c .before .loop .inv .6))),
+      subst ArrayRanges (sym (c .before .loop .inv .4)) (array-ranges (args .description .now) (c .before .loop .inv .5)),
     )
 
 returns-5 : tie.Need-returns-5 Inv-loop μ-loop
 returns-5 c =
-    let e : c .before .before .loop .l ≡ layerCount (c .before .before .before .before .before .before .before .before .before .before .before .before .args .description .now) = omega (arith, c .before .before .loop .inv .0, c .before .before .loop .inv .1, c .before .loop-test .left) in
-    whole-answer (c .before .before .before .before .before .before .before .before .before .before .before .before .args .description .now) (c .before .before .loop .l) e (c .before .before .loop .inv .2) (c .before .before .loop .inv .5) (c .before .before .loop .inv .6) (c .answer .ensures) (c .before .before .loop .inv .7) (c .before .before .loop .inv .4)
+    let args = c .before .before .before .before .before .before .before .before .before .before .before .before .args in
+    let loop = c .before .before .loop in
+    let e : loop .l ≡ layerCount (args .description .now) = omega (arith, loop .inv .0, loop .inv .1, c .before .loop-test .left) in
+    whole-answer (args .description .now) (loop .l) e (loop .inv .2) (loop .inv .5) (loop .inv .6) (c .answer .ensures) (loop .inv .7) (loop .inv .4)
 
 pub check-spec : {M : Type 1} → statement M
 check-spec =

@@ -26,10 +26,16 @@ add-outs : tie.Need-add-outs
 add-outs c = search needs
 
 mul-outs : tie.Need-mul-outs
-mul-outs c = record { fits = omega (arith, doubled-le (c .site-width .result) (c .before .before .before .before .args .r .«shift_bits» / 2 ^ c .before .before .before .before .args .i) (rw (c .site-width .ensures) (site-width-range (c .before .before .before .before .pre .0) (c .before .before .before .before .pre .1 .0) (c .before .before .before .before .args .i) (c .before .before .before .before .pre .1 .1) .most))) }
+mul-outs c =
+    let args = c .before .before .before .before .args in
+    let pre = c .before .before .before .before .pre in
+    record { fits = omega (arith, doubled-le (c .site-width .result) (args .r .«shift_bits» / 2 ^ args .i) (rw (c .site-width .ensures) (site-width-range (pre .0) (pre .1 .0) (args .i) (pre .1 .1) .most))) }
 
 returns-2 : tie.Need-returns-2
-returns-2 c = site-there (c .before .before .before .before .args .a) (c .before .before .before .before .args .r) (c .before .before .before .before .args .i) (c .before .before .site-groups .result) (c .site-width .result) (c .before .before .site-groups .ensures) (c .before .if1 .left) (c .site-width .ensures)
+returns-2 c =
+    let args = c .before .before .before .before .args in
+    let site-groups = c .before .before .site-groups in
+    site-there (args .a) (args .r) (args .i) (site-groups .result) (c .site-width .result) (site-groups .ensures) (c .before .if1 .left) (c .site-width .ensures)
 
 pub site-spec : {M : Type 1} → statement M
 site-spec =

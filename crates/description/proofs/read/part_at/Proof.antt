@@ -17,7 +17,9 @@ rechannel-requires : tie.Need-rechannel-requires
 rechannel-requires c κs = search needs
 
 returns : tie.Need-returns
-returns c = c .rechannel .ensures ∙ ap rechannelOf (c .before .before .before .pre .1 .0) ∙ number-first (c .before .before .before .args .description .now) (c .before .before .before .args .i) (c .before .if1 .taken)
+returns c =
+    let args = c .before .before .before .args in
+    c .rechannel .ensures ∙ ap rechannelOf (c .before .before .before .pre .1 .0) ∙ number-first (args .description .now) (args .i) (c .before .if1 .taken)
 
 sub-l : tie.Need-sub-l
 sub-l c = search needs
@@ -27,29 +29,38 @@ head-rechannel-requires c κs = search needs
 
 returns-2 : tie.Need-returns-2
 returns-2 c =
+    let pre = c .before .before .before .before .pre in
+    let args = c .before .before .before .before .args in
     c .head-rechannel .ensures
-    ∙ ap headRechannelOf (c .before .before .before .before .pre .1 .0)
-    ∙ number-last (c .before .before .before .before .args .description .now) (c .before .before .before .before .args .i) (c .before .before .if1 .left) (c .before .if2 .taken ∙ layers-of (c .before .before .before .before .args .description .now) (c .before .before .before .before .pre .1 .0)) (c .before .before .before .before .pre .1 .1)
+    ∙ ap headRechannelOf (pre .1 .0)
+    ∙ number-last (args .description .now) (args .i) (c .before .before .if1 .left) (c .before .if2 .taken ∙ layers-of (args .description .now) (pre .1 .0)) (pre .1 .1)
 
 layer-record-requires : tie.Need-layer-record-requires
-layer-record-requires c κs = omega (arith, (c .before .before .before .pre .1 .1), c .if2 .left, layers-of (c .before .before .before .args .description .now) (c .before .before .before .pre .1 .0), length-is (c .before .before .before .args .description .now) (c .before .before .before .pre .0))
+layer-record-requires c κs =
+    let pre = c .before .before .before .pre in
+    let args = c .before .before .before .args in
+    omega (arith, (pre .1 .1), c .if2 .left, layers-of (args .description .now) (pre .1 .0), length-is (args .description .now) (pre .0))
 
 sub-slot : tie.Need-sub-slot
 sub-slot c = search needs
 
 slot-requires : tie.Need-slot-requires
 slot-requires c κs =
-    let less : ((c .before .before .before .before .args .i) - 1) / 12 < layerCount (c .before .before .before .before .args .description .now) = omega (arith, (c .before .before .before .before .pre .1 .1), c .before .if2 .left, layers-of (c .before .before .before .before .args .description .now) (c .before .before .before .before .pre .1 .0)) in (
-      subst ArrayRanges (sym (c .before .before .before .before .pre .1 .0)) (array-in-range (c .before .before .before .before .args .description .now) (c .before .before .before .before .pre .0)),
-      (subst LayerRanges (sym (c .layer-record .ensures)) (layer-in-range (c .before .before .before .before .args .description .now) (c .before .before .before .before .pre .0) (((c .before .before .before .before .args .i) - 1) / 12) less), search needs),
+    let args = c .before .before .before .before .args in
+    let pre = c .before .before .before .before .pre in
+    let less : ((args .i) - 1) / 12 < layerCount (args .description .now) = omega (arith, (pre .1 .1), c .before .if2 .left, layers-of (args .description .now) (pre .1 .0)) in (
+      subst ArrayRanges (sym (pre .1 .0)) (array-in-range (args .description .now) (pre .0)),
+      (subst LayerRanges (sym (c .layer-record .ensures)) (layer-in-range (args .description .now) (pre .0) (((args .i) - 1) / 12) less), search needs),
     )
 
 returns-3 : tie.Need-returns-3
 returns-3 c =
+    let args = c .before .before .before .before .before .args in
+    let pre = c .before .before .before .before .before .pre in
     c .slot .ensures
-    ∙ ap (λ (r : LayerRecord). partOf (c .before .before .before .before .before .args .a) r (((c .before .before .before .before .before .args .i) - 1) % 12)) (c .before .layer-record .ensures)
-    ∙ ap (λ (a : ArrayRecord). partOf a (layerOf (c .before .before .before .before .before .args .description .now) (((c .before .before .before .before .before .args .i) - 1) / 12)) (((c .before .before .before .before .before .args .i) - 1) % 12)) (c .before .before .before .before .before .pre .1 .0)
-    ∙ number-slot (c .before .before .before .before .before .args .description .now) (c .before .before .before .before .before .args .i) (c .before .before .before .if1 .left) (λ e. c .before .before .if2 .left (e ∙ sym (layers-of (c .before .before .before .before .before .args .description .now) (c .before .before .before .before .before .pre .1 .0)))) (c .before .before .before .before .before .pre .1 .1)
+    ∙ ap (λ (r : LayerRecord). partOf (args .a) r (((args .i) - 1) % 12)) (c .before .layer-record .ensures)
+    ∙ ap (λ (a : ArrayRecord). partOf a (layerOf (args .description .now) (((args .i) - 1) / 12)) (((args .i) - 1) % 12)) (pre .1 .0)
+    ∙ number-slot (args .description .now) (args .i) (c .before .before .before .if1 .left) (λ e. c .before .before .if2 .left (e ∙ sym (layers-of (args .description .now) (pre .1 .0)))) (pre .1 .1)
 
 pub part-at-spec : {M : Type 1} → statement M
 part-at-spec =

@@ -20,13 +20,17 @@ breaks-range-requires c κs = search needs
 
 returns : tie.Need-returns
 unfolding layerLimits
-returns c = broken-range (c .before .before .before .before .args .description .now) (c .before .before .before .before .args .l) (sym (c .before .breaks-range .ensures) ∙ c .if1 .taken)
+returns c =
+    let args = c .before .before .before .before .args in
+    broken-range (args .description .now) (args .l) (sym (c .before .breaks-range .ensures) ∙ c .if1 .taken)
 
 breaks-zero-rule-requires : tie.Need-breaks-zero-rule-requires
 breaks-zero-rule-requires c κs = search needs
 
 returns-2 : tie.Need-returns-2
-returns-2 c = broken-zeros (c .before .before .before .before .before .before .args .description .now) (c .before .before .before .before .before .before .args .l) (sym (c .before .breaks-zero-rule .ensures) ∙ c .if2 .taken)
+returns-2 c =
+    let args = c .before .before .before .before .before .before .args in
+    broken-zeros (args .description .now) (args .l) (sym (c .before .breaks-zero-rule .ensures) ∙ c .if2 .taken)
 
 layer-record-requires : tie.Need-layer-record-requires
 layer-record-requires c κs = search needs
@@ -34,7 +38,8 @@ layer-record-requires c κs = search needs
 returns-3 : tie.Need-returns-3
 unfolding layerLimits
 returns-3 c =
-    whole (c .before .before .before .before .before .before .before .args .description .now) (c .before .before .before .before .before .before .before .args .l) (sym (c .before .before .before .before .breaks-range .ensures) ∙ c .before .before .before .if1 .left)
+    let args = c .before .before .before .before .before .before .before .args in
+    whole (args .description .now) (args .l) (sym (c .before .before .before .before .breaks-range .ensures) ∙ c .before .before .before .if1 .left)
     (sym (c .before .before .breaks-zero-rule .ensures) ∙ c .before .if2 .left)
     (c .layer-record .ensures)
 

@@ -136,7 +136,8 @@ number-requires-11 c κs = omega (arith, c .before .before .before .before .befo
 
 returns : tie.Need-returns
 returns c =
-    layer-is (c .before .before .before .before .before .before .before .before .before .before .before .before .before .before .before .before .before .before .before .before .before .args .description .now) (c .before .before .before .before .before .before .before .before .before .before .before .before .before .before .before .before .before .before .before .before .before .args .l) (c .before .before .before .before .before .before .before .before .before .before .number .ensures) (c .before .before .before .before .before .before .before .before .before .number2 .ensures) (c .before .before .before .before .before .before .before .before .number3 .ensures) (c .before .before .before .before .before .before .before .number4 .ensures) (c .before .before .before .before .before .before .number5 .ensures) (c .before .before .before .before .before .number6 .ensures) (c .before .before .before .before .number7 .ensures) (c .before .before .before .number8 .ensures) (c .before .before .number9 .ensures) (c .before .number10 .ensures) (c .number11 .ensures) (c .before .before .before .before .before .before .before .before .before .before .before .before .before .before .before .before .before .before .read-mode .ensures) (c .before .before .before .before .before .before .before .before .before .before .before .before .before .before .before .read-activation .ensures) (c .before .before .before .before .before .before .before .before .before .before .before .before .read-activation2 .ensures) (c .before .before .before .before .before .before .before .before .before .before .before .read-sites .ensures)
+    let args = c .before .before .before .before .before .before .before .before .before .before .before .before .before .before .before .before .before .before .before .before .before .args in
+    layer-is (args .description .now) (args .l) (c .before .before .before .before .before .before .before .before .before .before .number .ensures) (c .before .before .before .before .before .before .before .before .before .number2 .ensures) (c .before .before .before .before .before .before .before .before .number3 .ensures) (c .before .before .before .before .before .before .before .number4 .ensures) (c .before .before .before .before .before .before .number5 .ensures) (c .before .before .before .before .before .number6 .ensures) (c .before .before .before .before .number7 .ensures) (c .before .before .before .number8 .ensures) (c .before .before .number9 .ensures) (c .before .number10 .ensures) (c .number11 .ensures) (c .before .before .before .before .before .before .before .before .before .before .before .before .before .before .before .before .before .before .read-mode .ensures) (c .before .before .before .before .before .before .before .before .before .before .before .before .before .before .before .read-activation .ensures) (c .before .before .before .before .before .before .before .before .before .before .before .before .read-activation2 .ensures) (c .before .before .before .before .before .before .before .before .before .before .before .read-sites .ensures)
 
 pub layer-record-spec : {M : Type 1} → statement M
 layer-record-spec =

@@ -50,7 +50,9 @@ number-requires-8 : tie.Need-number-requires-8
 number-requires-8 c κs = search needs
 
 returns : tie.Need-returns
-returns c = sites-is (c .before .before .before .before .before .before .before .before .before .args .description .now) (c .before .before .before .before .before .before .before .before .before .args .at) (c .before .before .before .before .before .before .before .number .ensures) (c .before .before .before .before .before .before .number2 .ensures) (c .before .before .before .before .before .number3 .ensures) (c .before .before .before .before .number4 .ensures) (c .before .before .before .number5 .ensures) (c .before .before .number6 .ensures) (c .before .number7 .ensures) (c .number8 .ensures)
+returns c =
+    let args = c .before .before .before .before .before .before .before .before .before .args in
+    sites-is (args .description .now) (args .at) (c .before .before .before .before .before .before .before .number .ensures) (c .before .before .before .before .before .before .number2 .ensures) (c .before .before .before .before .before .number3 .ensures) (c .before .before .before .before .number4 .ensures) (c .before .before .before .number5 .ensures) (c .before .before .number6 .ensures) (c .before .number7 .ensures) (c .number8 .ensures)
 
 pub read-sites-spec : {M : Type 1} → statement M
 read-sites-spec =

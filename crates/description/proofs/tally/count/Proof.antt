@@ -33,10 +33,12 @@ uneven-requires c κs = rw (c .slot .ensures) (slot-fits (c .before .before .loo
 
 past-requires : tie.Need-past-requires Inv-loop μ-loop
 unfolding partOf
-past-requires c κs = (
-  rw (c .before .before .before .loop .inv .4) (low-on (past-low _ (c .before .before .before .before .before .args .start .place) (slotsOf (c .before .before .before .before .before .args .a) (c .before .before .before .before .before .args .r)) (c .before .before .before .loop .inv .3) (λ i. slot-fits (c .before .before .before .loop .inv .1) (c .before .before .before .loop .inv .2) i) (c .before .before .before .loop .k)) (omega arith)),
-  rw (c .before .slot .ensures) (slot-fits (c .before .before .before .loop .inv .1) (c .before .before .before .loop .inv .2) (c .before .before .before .loop .k)),
-)
+past-requires c κs =
+    let args = c .before .before .before .before .before .args in
+    let loop = c .before .before .before .loop in (
+      rw (loop .inv .4) (low-on (past-low _ (args .start .place) (slotsOf (args .a) (args .r)) (loop .inv .3) (λ i. slot-fits (loop .inv .1) (loop .inv .2) i) (loop .k)) (omega arith)),
+      rw (c .before .slot .ensures) (slot-fits (loop .inv .1) (loop .inv .2) (loop .k)),
+    )
 
 add-k : tie.Need-add-k Inv-loop μ-loop
 add-k c = search needs
@@ -46,18 +48,23 @@ loop-less c = search needs
 
 loop-again : tie.Need-loop-again Inv-loop μ-loop
 unfolding partOf slotsOf
-loop-again c = (
-  search needs,
-  c .before .before .before .before .loop .inv .1,
-  c .before .before .before .before .loop .inv .2,
-  c .before .before .before .before .loop .inv .3,
-  rw (c .past .ensures, c .before .before .slot .ensures, c .before .before .before .before .loop .inv .4) (past-take (c .before .before .before .before .before .before .args .start .place) (slotsOf (c .before .before .before .before .before .before .args .a) (c .before .before .before .before .before .before .args .r)) (c .before .before .before .before .loop .k) (omega arith)),
-  rw (c .before .uneven .ensures, c .before .before .slot .ensures, c .before .before .before .before .loop .inv .5) (odd-take (c .before .before .before .before .before .before .args .start .uneven) (slotsOf (c .before .before .before .before .before .before .args .a) (c .before .before .before .before .before .before .args .r)) (c .before .before .before .before .loop .k) (omega arith)),
-)
+loop-again c =
+    let args = c .before .before .before .before .before .before .args in
+    let loop = c .before .before .before .before .loop in
+    let slot = c .before .before .slot in (
+      search needs,
+      loop .inv .1,
+      loop .inv .2,
+      loop .inv .3,
+      rw (c .past .ensures, slot .ensures, loop .inv .4) (past-take (args .start .place) (slotsOf (args .a) (args .r)) (loop .k) (omega arith)),
+      rw (c .before .uneven .ensures, slot .ensures, loop .inv .5) (odd-take (args .start .uneven) (slotsOf (args .a) (args .r)) (loop .k) (omega arith)),
+    )
 
 returns : tie.Need-returns Inv-loop μ-loop
 unfolding slotsOf
-returns c = count-end (c .before .before .before .args .start) (slotsOf (c .before .before .before .args .a) (c .before .before .before .args .r)) (c .before .loop .k) _ _ (c .before .loop .inv .4) (c .before .loop .inv .5) (omega arith)
+returns c =
+    let args = c .before .before .before .args in
+    count-end (args .start) (slotsOf (args .a) (args .r)) (c .before .loop .k) _ _ (c .before .loop .inv .4) (c .before .loop .inv .5) (omega arith)
 
 pub count-spec : {M : Type 1} → statement M
 count-spec =

@@ -61,7 +61,8 @@ loop-again c = (search needs, search needs, search needs, any-more _ _ (c .befor
 returns : tie.Need-returns Inv-loop μ-loop
 unfolding breaksSites
 returns c =
-    any-end (c .before .loop .i) 8 (λ i. none (getD (c .before .before .before .args .description .now) (c .before .before .before .args .at + (15 + i)) 0) && bit (getD (c .before .before .before .args .description .now) (c .before .before .before .args .at + 23) 0) i) (c .before .loop .inv .3)
+    let args = c .before .before .before .args in
+    any-end (c .before .loop .i) 8 (λ i. none (getD (args .description .now) (args .at + (15 + i)) 0) && bit (getD (args .description .now) (args .at + 23) 0) i) (c .before .loop .inv .3)
     (omega arith)
 
 pub breaks-sites-spec : {M : Type 1} → statement M

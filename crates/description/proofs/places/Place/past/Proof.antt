@@ -17,20 +17,26 @@ weight-count-requires : tie.Need-weight-count-requires
 weight-count-requires c κs = c .before .before .before .pre .1 .shape _ (c .before .part .given .1)
 
 add-t6 : tie.Need-add-t6
-add-t6 c = record { fits = omega (arith, weight-le (c .before .before .before .before .before .pre .1 .shape _ (c .before .before .before .part .given .1)), c .before .weight-count .ensures, c .before .before .before .before .before .pre .0 .weights) }
+add-t6 c =
+    let pre = c .before .before .before .before .before .pre in
+    record { fits = omega (arith, weight-le (pre .1 .shape _ (c .before .before .before .part .given .1)), c .before .weight-count .ensures, pre .0 .weights) }
 
 history-count-requires : tie.Need-history-count-requires
 history-count-requires c κs = c .before .before .before .before .before .pre .1 .shape _ (c .before .before .before .part .given .1)
 
 add-t8 : tie.Need-add-t8
-add-t8 c = record { fits = omega (arith, history-count-le (c .before .before .before .before .before .before .before .pre .1 .shape _ (c .before .before .before .before .before .part .given .1)), c .before .history-count .ensures, c .before .before .before .before .before .before .before .pre .0 .histories) }
+add-t8 c =
+    let pre = c .before .before .before .before .before .before .before .pre in
+    record { fits = omega (arith, history-count-le (pre .1 .shape _ (c .before .before .before .before .before .part .given .1)), c .before .history-count .ensures, pre .0 .histories) }
 
 add-t9 : tie.Need-add-t9
 add-t9 c = record { fits = omega (arith, c .before .before .before .before .before .before .before .before .pre .0 .positions) }
 
 returns : tie.Need-returns
 unfolding pastOf weightsOf historiesOf positionsOf
-returns c = rw (c .enum-told .given .1, add-zero (c .before .before .args .self .weights), add-zero (c .before .before .args .self .histories), add-zero (c .before .before .args .self .positions))
+returns c =
+    let args = c .before .before .args in
+    rw (c .enum-told .given .1, add-zero (args .self .weights), add-zero (args .self .histories), add-zero (args .self .positions))
 
 returns-2 : tie.Need-returns-2
 unfolding pastOf weightsOf historiesOf positionsOf

@@ -25,11 +25,17 @@ returns-2 c = rw (c .before .if1 .left, c .if2 .taken)
 
 returns-3 : tie.Need-returns-3
 unfolding answerOf
-returns-3 c = too-many (c .before .before .before .before .before .before .before .before .before .args .self) (c .before .before .before .before .before .past .result) (c .before .before .before .before .if1 .left) (c .before .before .before .if2 .left) (c .if3 .taken) ∙ ap (answerAt (c .before .before .before .before .before .before .before .before .before .args .self)) (rw (c .before .before .before .before .before .before .head-rechannel .ensures) at (c .before .before .before .before .before .past .ensures))
+returns-3 c =
+    let args = c .before .before .before .before .before .before .before .before .before .args in
+    let past = c .before .before .before .before .before .past in
+    too-many (args .self) (past .result) (c .before .before .before .before .if1 .left) (c .before .before .before .if2 .left) (c .if3 .taken) ∙ ap (answerAt (args .self)) (rw (c .before .before .before .before .before .before .head-rechannel .ensures) at (past .ensures))
 
 returns-4 : tie.Need-returns-4
 unfolding answerOf
-returns-4 c = sound (c .before .before .before .before .before .before .before .before .before .args .self) (c .before .before .before .before .before .past .result) (c .before .before .before .before .if1 .left) (c .before .before .before .if2 .left) (c .if3 .left) ∙ ap (answerAt (c .before .before .before .before .before .before .before .before .before .args .self)) (rw (c .before .before .before .before .before .before .head-rechannel .ensures) at (c .before .before .before .before .before .past .ensures))
+returns-4 c =
+    let args = c .before .before .before .before .before .before .before .before .before .args in
+    let past = c .before .before .before .before .before .past in
+    sound (args .self) (past .result) (c .before .before .before .before .if1 .left) (c .before .before .before .if2 .left) (c .if3 .left) ∙ ap (answerAt (args .self)) (rw (c .before .before .before .before .before .before .head-rechannel .ensures) at (past .ensures))
 
 pub answer-spec : {M : Type 1} → statement M
 answer-spec =

@@ -17,7 +17,9 @@ array-widest-requires : tie.Need-array-widest-requires
 array-widest-requires c κs = search needs
 
 returns : tie.Need-returns
-returns c = start-is (c .before .before .before .args .a) (rw (c .before .before .rechannel .ensures) at (c .before .past .ensures) ∙ past-origin (rechannelOf (c .before .before .before .args .a))) (c .array-widest .ensures)
+returns c =
+    let args = c .before .before .before .args in
+    start-is (args .a) (rw (c .before .before .rechannel .ensures) at (c .before .past .ensures) ∙ past-origin (rechannelOf (args .a))) (c .array-widest .ensures)
 
 pub start-spec : {M : Type 1} → statement M
 start-spec = tie.close (tie.spec rechannel-requires past-requires array-widest-requires returns)

@@ -24,10 +24,14 @@ mul-t10 : tie.Need-mul-t10
 mul-t10 c = record { fits = omega (arith, reach-le (c .before .before .before .before .before .before .before .before .pre .1 .1)) }
 
 add-t11 : tie.Need-add-t11
-add-t11 c = record { fits = omega (arith, reach-le (c .before .before .before .before .before .before .before .before .before .pre .1 .1), c .before .before .before .before .before .before .before .before .before .pre .0 .depth) }
+add-t11 c =
+    let pre = c .before .before .before .before .before .before .before .before .before .pre in
+    record { fits = omega (arith, reach-le (pre .1 .1), pre .0 .depth) }
 
 returns : tie.Need-returns
-returns c = layer-in (c .before .before .before .before .before .before .before .before .before .args .self) (c .before .before .before .before .before .before .before .before .before .args .a) (c .before .before .before .before .before .before .before .before .before .args .r) (c .before .before .before .before .before .before .before .count .ensures) (c .before .before .before .before .before .before .unmatched .ensures) (rw (c .before .before .before .before .layer-widest .ensures) at (c .before .before .before .larger .ensures))
+returns c =
+    let args = c .before .before .before .before .before .before .before .before .before .args in
+    layer-in (args .self) (args .a) (args .r) (c .before .before .before .before .before .before .before .count .ensures) (c .before .before .before .before .before .before .unmatched .ensures) (rw (c .before .before .before .before .layer-widest .ensures) at (c .before .before .before .larger .ensures))
 
 pub with-layer-spec : {M : Type 1} → statement M
 with-layer-spec =
