@@ -38,7 +38,8 @@ fn rewind_part(positions: &mut [u32], at: usize, part: Part) -> usize
     match part {
         Part::Absent => at,
         Part::There(sh) => {
-            positions[at] = (sh.ring_length() - 1) as u32;
+            let length = sh.ring_length();
+            positions[at] = (length - 1) as u32;
             at + 1
         }
     }
