@@ -4,8 +4,10 @@
 ghost use mathlib.Core.Path.{_≡_};
 ghost use Prim.Native.Nat.{_+_, _*_, _<_, _≤_};
 ghost use lib.ListN.{length};
-use description::answers::{Checked, Sizes};
-use libc::{STDIN_FILENO, STDOUT_FILENO};
+use description::answers::Checked;
+use description::answers::Sizes;
+use libc::STDIN_FILENO;
+use libc::STDOUT_FILENO;
 
 // The number that starts at place `at`.
 fn word(bytes: &[u8], at: usize) -> usize
