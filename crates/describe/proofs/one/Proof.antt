@@ -1,107 +1,76 @@
-use lib.ListN.{length-take, length-replicate, replicate}
-use mathlib.Core.Path.{_≡_, refl, sym, _∙_, ap}
-use Prim.Native.Nat.{ℕ, _+_, _*_, _-_, _/_, _%_, _≤_, _<_}
+-- `one` lends parts that lie within its arrays, and as many bytes as the numbers need. Assumes nothing.
 use native.Mathlib.Omega.{arith}
-use lib.ListN.{length, set, take, drop, length-set}
-use lib.Ieee.{Float, nan, binary32, add, mul}
+use lib.ListN.{length-take, length-replicate}
 use borrow.Author.Needs.{needs}
 use Rattle.describe.proofs.one.Statement.{statement}
 use Rattle.describe.proofs.one.Tie as tie
-use Rattle.describe.proofs.one.Reads as reads
-use Rattle.describe.proofs.one.Lts as lts
-use Rattle.describe.proofs.answer.Reads as answer-reads
-use Rattle.describe.proofs.word.Reads as word-reads
-use Rattle.io.proofs.read_full.Reads as read-full-reads
 
--- src/main.rt:95:36
 slice-aggregate-read-full : tie.Need-slice-aggregate-read-full
 slice-aggregate-read-full c = search needs
 
--- src/main.rt:95:8
 read-full-requires : tie.Need-read-full-requires
 read-full-requires c κs = search needs
 
--- src/main.rt:96:9
 returns : tie.Need-returns
 returns c = search needs
 
--- src/main.rt:98:22
 slice-aggregate-word : tie.Need-slice-aggregate-word
 slice-aggregate-word c = search needs
 
--- src/main.rt:98:9
 word-requires : tie.Need-word-requires
 word-requires c κs = search needs
 
--- src/main.rt:99:18
 slice-aggregate-word-2 : tie.Need-slice-aggregate-word-2
 slice-aggregate-word-2 c = search needs
 
--- src/main.rt:99:9
 word-requires-2 : tie.Need-word-requires-2
 word-requires-2 c κs = search needs
 
--- src/main.rt:100:18
 slice-aggregate-word-3 : tie.Need-slice-aggregate-word-3
 slice-aggregate-word-3 c = search needs
 
--- src/main.rt:100:9
 word-requires-3 : tie.Need-word-requires-3
 word-requires-3 c κs = search needs
 
--- src/main.rt:102:9
 returns-2 : tie.Need-returns-2
 returns-2 c = search needs
 
--- src/main.rt:105:9
 returns-3 : tie.Need-returns-3
 returns-3 c = search needs
 
--- src/main.rt:108:9
 returns-4 : tie.Need-returns-4
 returns-4 c = search needs
 
--- src/main.rt:110:16
 mul-size : tie.Need-mul-size
 mul-size c = search needs
 
--- src/main.rt:112:9
 array-borrow-prefix-numbers : tie.Need-array-borrow-prefix-numbers
 array-borrow-prefix-numbers c = search needs
 
--- src/main.rt:112:9
 slice-aggregate-answer : tie.Need-slice-aggregate-answer
 slice-aggregate-answer c = simp (length-take, length-replicate) (omega arith)
 
--- src/main.rt:113:9
 array-borrow-prefix-bytes : tie.Need-array-borrow-prefix-bytes
 array-borrow-prefix-bytes c = search needs
 
--- src/main.rt:113:9
 slice-aggregate-answer-2 : tie.Need-slice-aggregate-answer-2
 slice-aggregate-answer-2 c = simp (length-take, length-replicate) (omega arith)
 
--- src/main.rt:114:9
 array-borrow-prefix-histories : tie.Need-array-borrow-prefix-histories
 array-borrow-prefix-histories c = search needs
 
--- src/main.rt:114:9
 slice-aggregate-answer-3 : tie.Need-slice-aggregate-answer-3
 slice-aggregate-answer-3 c = simp (length-take, length-replicate) (omega arith)
 
--- src/main.rt:115:9
 array-borrow-prefix-positions : tie.Need-array-borrow-prefix-positions
 array-borrow-prefix-positions c = search needs
 
--- src/main.rt:115:9
 slice-aggregate-answer-4 : tie.Need-slice-aggregate-answer-4
 slice-aggregate-answer-4 c = simp (length-take, length-replicate) (omega arith)
 
--- src/main.rt:111:5
 answer-requires : tie.Need-answer-requires
 answer-requires c κs = simp (length-take, length-replicate) (omega arith)
 
--- src/main.rt:89:1
 returns-5 : tie.Need-returns-5
 returns-5 c = search needs
 
