@@ -1,7 +1,7 @@
 -- The answers of a layer's reading and of the whole check, from what the tests told. Assumes nothing.
 use mathlib.Core.Path.{_≡_, refl, sym, _∙_, ap, subst}
-use mathlib.Core.Bool.{Bool, true, false, cond, or-false, or-true, _||_}
-use mathlib.Core.List.{List, [], _∷_, _++_}
+use mathlib.Core.Bool.{Bool, true, false, cond, or-false, or-true}
+use mathlib.Core.List.{List, [], _∷_}
 use Prim.Native.Nat.{ℕ, _+_, _≤_, _<_}
 use native.Mathlib.Numerals.{add-one}
 use native.Mathlib.Omega.{arith}
@@ -26,7 +26,6 @@ use Rattle.description.specs.declared.tally.Tally.{Tally}
 use Rattle.description.specs.declared.answers.Sizes.{Sizes}
 use Rattle.description.specs.declared.answers.Checked.{Checked}
 use Rattle.description.specs.declared.answers.Checked.the-variants.{Refused, Sound}
-use Rattle.description.specs.declared.answers.LayerAnswer.{LayerAnswer}
 use Rattle.description.specs.declared.answers.LayerAnswer.the-variants.{Broken, Read}
 use Rattle.description.proofs.Folds.{any-append, none-below, some-below}
 use Rattle.description.proofs.Ranging.{layer-ranges}

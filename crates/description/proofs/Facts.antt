@@ -1,6 +1,6 @@
 -- The theorems on the answers of the check and of `sizes`: a number is given exactly when its test holds and no lower one, both ways; any two results
 -- agree; the values are the formulas. Assumes nothing.
-use mathlib.Core.Path.{_≡_, refl, sym, _∙_, ap, subst}
+use mathlib.Core.Path.{_≡_, refl, sym, _∙_, ap}
 use mathlib.Core.Bool.{Bool, true, false, cond}
 use mathlib.Core.List.{List, [], _∷_}
 use mathlib.Core.Logic.{_↔_}
@@ -8,7 +8,7 @@ use Prim.Native.Nat.{ℕ, zero, suc, _+_, _≤_, _<_}
 use native.Mathlib.Nat.{not-suc-le-zero}
 use native.Mathlib.Omega.{arith}
 use lib.Dec.{eqb}
-use lib.ListN.{getD, length}
+use lib.ListN.{getD}
 use borrow.Author.Tests.{eq-eqb, ne-eqb}
 use Rattle.description.specs.Answers.{Answers, listed, numberOf, valuesOf}
 use Rattle.description.specs.Refusals.{refusalOf, refused1, refused2, refused3, refused4, refused5}
@@ -67,13 +67,28 @@ refusal-first : (d : List ℕ) → refusalOf d ≡ numberFrom 0 (testsOf d)
 unfolding refusalOf testsOf numberFrom
 refusal-first d = refl
 
+five : (a b c e f : Bool) → cond a 1 (cond b 2 (cond c 3 (cond e 4 (cond f 5 0)))) ≤ 5
+five true b c e f = omega arith
+five false true c e f = omega arith
+five false false true e f = omega arith
+five false false false true f = omega arith
+five false false false false true = omega arith
+five false false false false false = omega arith
+
+pub refusal-exactly-when : (d : List ℕ) (k : ℕ) → (refusalOf d ≡ k + 1) ↔ First (testsOf d) k
+refusal-exactly-when d k = (
+  λ e. first-of 0 k (testsOf d) (sym (refusal-first d) ∙ e ∙ omega arith),
+  λ f. refusal-first d ∙ of-first 0 k (testsOf d) f ∙ omega arith,
+)
+
 -- the number k + 1 is given exactly when its test holds and none of the lower ones
 pub given-exactly-when : (d : List ℕ) {r : Checked} → Answers d r → (k : ℕ) → (numberOf r ≡ k + 1) ↔ First (testsOf d) k
 given-exactly-when d a k =
-    (
-      λ e. first-of 0 k (testsOf d) (sym (refusal-first d) ∙ sym (a .number) ∙ e ∙ omega arith),
-      λ f. a .number ∙ refusal-first d ∙ of-first 0 k (testsOf d) f ∙ omega arith
-    )
+    (λ e. refusal-exactly-when d k .0 (sym (a .number) ∙ e), λ f. a .number ∙ refusal-exactly-when d k .1 f)
+
+pub refusal-most : (d : List ℕ) → refusalOf d ≤ 5
+unfolding refusalOf
+refusal-most d = five (refused1 d) (refused2 d) (refused3 d) (refused4 d) (refused5 d)
 
 -- none is given exactly when no test holds
 none-from : (n : ℕ) (tests : List Bool) → numberFrom n tests ≡ 0 → (k : ℕ) → getD tests k false ≡ false
@@ -90,11 +105,10 @@ from-none n (true ∷ tests) h = no (sym (h 0))
 from-none n (false ∷ tests) h = from-none (n + 1) tests (λ k. h (suc k))
 
 pub sound-exactly-when : (d : List ℕ) {r : Checked} → Answers d r → (numberOf r ≡ 0) ↔ ((k : ℕ) → getD (testsOf d) k false ≡ false)
-sound-exactly-when d a =
-    (
-      λ e. none-from 0 (testsOf d) (sym (refusal-first d) ∙ sym (a .number) ∙ e),
-      λ h. a .number ∙ refusal-first d ∙ from-none 0 (testsOf d) h
-    )
+sound-exactly-when d a = (
+  λ e. none-from 0 (testsOf d) (sym (refusal-first d) ∙ sym (a .number) ∙ e),
+  λ h. a .number ∙ refusal-first d ∙ from-none 0 (testsOf d) h,
+)
 
 -- equal lists of the five values, equal sizes
 same-sizes : (s t : Sizes) → listed s ≡ listed t → s ≡ t
@@ -106,8 +120,8 @@ same-sizes s t e =
     let x : s .widest ≡ t .widest = cc in
     let y : s .depth ≡ t .depth = cc in
     let q : _≡_ {A = Sizes}
-        (record { weights = s .weights; histories = s .histories; positions = s .positions; widest = s .widest; depth = s .depth })
-        (record { weights = t .weights; histories = t .histories; positions = t .positions; widest = t .widest; depth = t .depth }) = rw (w, h, p, x, y) in
+    (record { weights = s .weights; histories = s .histories; positions = s .positions; widest = s .widest; depth = s .depth })
+    (record { weights = t .weights; histories = t .histories; positions = t .positions; widest = t .widest; depth = t .depth }) = rw (w, h, p, x, y) in
     q
 
 empty : (s : Sizes) → [] ≡ listed s → ⊥

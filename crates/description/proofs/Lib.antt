@@ -1,5 +1,5 @@
 pub mod Answering
-mod Cases
+pub mod Cases
 pub mod Facts
 pub mod Folds
 pub mod Ranging

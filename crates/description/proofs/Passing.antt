@@ -1,20 +1,18 @@
 -- The pass over a description: its tally after each layer, in closed form. Assumes nothing.
 use mathlib.Core.Path.{_≡_, refl, sym, _∙_, ap, subst}
-use mathlib.Core.Bool.{Bool, true, false, cond, not, or-assoc, or-false, _||_}
-use mathlib.Core.List.{List, [], _∷_, _++_, append-assoc}
+use mathlib.Core.Bool.{Bool, true, false, not, _||_}
+use mathlib.Core.List.{List, [], _∷_, _++_}
 use Prim.Native.Nat.{ℕ, zero, suc, _+_, _*_, _-_, _%_, _≤_, _<_, max}
-use native.Mathlib.Nat.{add-zero, add-assoc, mod-one, mul-le-mul, zero-add, zero-max}
+use native.Mathlib.Nat.{add-zero, mod-one, mul-le-mul, zero-add, zero-max}
 use native.Mathlib.Numerals.{add-one}
 use native.Mathlib.Omega.{arith}
 use lib.Dec.{eqb, ltb}
-use lib.ListN.{getD, length, take}
-use Rattle.description.specs.Numbers.{layerCount}
 use Rattle.description.specs.Records.{arrayOf, layerOf}
-use Rattle.description.specs.Parts.{eachLayer, headRechannelOf, mid, partOf, partsOf, partsTo, rechannelOf, slotsOf, unevenOf}
-use Rattle.description.specs.Sizes.{arrayWidths, depthOf, historiesOf, largest, layerWidths, pastOf, placeOf, positionsOf, reach, sizesOf, sumBelow, total, weightsOf, widestOf}
-use Rattle.description.specs.Ranges.{ArrayRanges, Between, Fits, LayerRanges, Low}
-use Rattle.description.specs.Refusals.{most, refused3, refused4, refused5, unmatchedOf}
-use Rattle.description.specs.Tally.{LowTally, answerAt, answerOf, countAll, pastAll, startOf, withLayer}
+use Rattle.description.specs.Parts.{eachLayer, headRechannelOf, partOf, partsTo, rechannelOf, slotsOf, unevenOf}
+use Rattle.description.specs.Sizes.{arrayWidths, historiesOf, largest, layerWidths, pastOf, placeOf, positionsOf, reach, sumBelow, total, weightsOf}
+use Rattle.description.specs.Ranges.{ArrayRanges, Fits, LayerRanges, Low}
+use Rattle.description.specs.Refusals.{most, unmatchedOf}
+use Rattle.description.specs.Tally.{LowTally, answerAt, countAll, pastAll, startOf, withLayer}
 use Rattle.description.specs.Tests.{any, anyBelow}
 use Rattle.description.specs.declared.records.ArrayRecord.{ArrayRecord}
 use Rattle.description.specs.declared.records.LayerRecord.{LayerRecord}
@@ -22,10 +20,9 @@ use Rattle.description.specs.declared.parts.Part.{Part}
 use Rattle.description.specs.declared.places.Place.{Place}
 use Rattle.description.specs.declared.tally.Counted.{Counted}
 use Rattle.description.specs.declared.tally.Tally.{Tally}
-use Rattle.description.specs.declared.answers.Checked.{Checked}
 use Rattle.description.specs.declared.answers.Checked.the-variants.{Refused, Sound}
 use Rattle.description.proofs.Folds.{any-append}
-use Rattle.description.proofs.Slots.{head-rechannel-fits, rechannel-fits, slot-fits}
+use Rattle.description.proofs.Slots.{rechannel-fits, slot-fits}
 use Rattle.description.proofs.Totals.{histories-le, low-on, past-low-all, positions-le, total-append, total-one, weights-le}
 
 abbrev pub origin : Place
@@ -44,7 +41,7 @@ past-origin p =
       zero-add (historiesOf p),
       add-zero (historiesOf p),
       zero-add (positionsOf p),
-      add-zero (positionsOf p)
+      add-zero (positionsOf p),
     )
 
 past-origin-low : (p : Part) → Fits p → Low 0x40_0000 (pastOf origin p)

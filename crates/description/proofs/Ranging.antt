@@ -1,13 +1,13 @@
 -- What the tests of refusal 2 leave of the records, where they fail. Assumes nothing.
-use mathlib.Core.Path.{_≡_, refl, sym, _∙_, ap}
-use mathlib.Core.Bool.{Bool, true, false, not, _&&_, _||_}
+use mathlib.Core.Path.{_≡_, refl}
+use mathlib.Core.Bool.{false, _&&_, _||_}
 use mathlib.Core.List.{List, [], _∷_}
-use Prim.Native.Nat.{ℕ, zero, suc, _+_, _*_, _≤_, _<_}
+use Prim.Native.Nat.{ℕ, zero, suc, _+_, _≤_, _<_}
 use native.Mathlib.Nat.{add-assoc, add-zero, not-suc-le-zero}
 use native.Mathlib.Omega.{arith}
-use lib.Dec.{ltb, eqb, lit<}
+use lib.Dec.{ltb, lit<}
 use lib.ListN.{getD, length}
-use borrow.Author.Tests.{ltb-false, lt-ltb, ne-eqb, eqb-true}
+use borrow.Author.Tests.{ltb-false, ne-eqb}
 use Rattle.description.specs.Numbers.{layerCount, number, recordAt}
 use Rattle.description.specs.Limits.{arrayLimits, breaksRange, layerLimits, outside}
 use Rattle.description.specs.ZeroRules.{breaksActivations, breaksParts, breaksSites, breaksZeroRule, none, some}
@@ -77,8 +77,8 @@ unfolding layerOf layerLimits breaksLayer breaksZeroRule breaksParts
 layer-ranges d l e =
     let range = left-false (breaksRange layerLimits d (recordAt l)) (breaksZeroRule d (recordAt l)) e in
     let zeros = right-false (breaksRange layerLimits d (recordAt l)) (breaksZeroRule d (recordAt l)) e in
-    let parts = right-false (breaksActivations d (recordAt l)) (breaksParts d (recordAt l)) 
-        (left-false (breaksActivations d (recordAt l) || breaksParts d (recordAt l)) (breaksSites d (recordAt l)) zeros) in
+    let parts = right-false (breaksActivations d (recordAt l)) (breaksParts d (recordAt l))
+    (left-false (breaksActivations d (recordAt l) || breaksParts d (recordAt l)) (breaksSites d (recordAt l)) zeros) in
     let at = at-place layerLimits d (recordAt l) range in
     record {
       bottleneck = inside 1 32 _ (at 0 (lit< tt));
@@ -89,15 +89,15 @@ layer-ranges d l e =
       layer1x1-groups = inside 0 32 _ (at 10 (lit< tt)) .most;
       head1x1-width = inside 0 32 _ (at 12 (lit< tt)) .most;
       head1x1-groups = inside 0 32 _ (at 13 (lit< tt)) .most;
-      head1x1-there = 
-        both (number d l 12) (number d l 13)
-        (right-false
-        (none (number d l 10) && some (number d l 11) || none (number d l 12) && (some (number d l 13) || some (number d l 14)))
-        (some (number d l 12) && none (number d l 13))
-        parts);
+      head1x1-there =
+          both (number d l 12) (number d l 13)
+          (right-false
+          (none (number d l 10) && some (number d l 11) || none (number d l 12) && (some (number d l 13) || some (number d l 14)))
+          (some (number d l 12) && none (number d l 13))
+          parts);
       site-groups =
-        sites-le d (recordAt l)
-        (λ i lt. inside 0 32 _ (rw (site-limits i lt) at (at (15 + i) (omega arith))) .most);
+          sites-le d (recordAt l)
+          (λ i lt. inside 0 32 _ (rw (site-limits i lt) at (at (15 + i) (omega arith))) .most);
     }
 
 pub layers-between : (d : List ℕ) → breaksRange arrayLimits d 0 ≡ false → Between 1 24 (layerCount d)

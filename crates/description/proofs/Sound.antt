@@ -1,29 +1,27 @@
 -- What holds of a description that the check lets through: what the crates above rest on. Assumes nothing.
 use mathlib.Core.Path.{_≡_, refl, sym, _∙_, ap, subst}
-use mathlib.Core.Bool.{Bool, true, false, cond, not, _&&_, _||_}
+use mathlib.Core.Bool.{Bool, true, false, cond, not, _&&_}
 use mathlib.Core.List.{List, [], _∷_, _++_}
-use Prim.Native.Nat.{ℕ, zero, suc, _+_, _-_, _*_, _/_, _%_, _≤_, _<_, max}
-use native.Mathlib.Nat.{add-comm, add-zero, div-add-mod, le-max-left, le-max-right, max-le}
+use Prim.Native.Nat.{ℕ, zero, suc, _+_, _-_, _*_, _/_, _%_, _≤_, _<_}
+use native.Mathlib.Nat.{add-comm, div-add-mod, le-max-left, le-max-right, max-le}
 use native.Mathlib.Numerals.{add-one}
 use native.Mathlib.Omega.{arith}
 use lib.Dec.{eqb, ltb}
 use lib.ListN.{getD, length, length-append, take, List·getD-append}
 use lib.Seq.{getD-append-seam, take-suc}
-use borrow.Author.Tests.{eq-eqb, eqb-true, leb-true, ltb-false, not-false}
+use borrow.Author.Tests.{eq-eqb, eqb-true, ltb-false, not-false}
 use Rattle.shape.specs.declared.Shape.{Shape}
 use Rattle.description.specs.Numbers.{headLength, layerCount, recordAt}
-use Rattle.description.specs.Tests.{any, anyBelow}
+use Rattle.description.specs.Tests.{anyBelow}
 use Rattle.description.specs.Limits.{arrayLimits, breaksRange}
 use Rattle.description.specs.Records.{arrayOf, layerOf}
-use Rattle.description.specs.Parts.{eachLayer, headRechannelOf, mid, partOf, partsOf, partsTo, rechannelOf, slotsOf, unevenOf}
+use Rattle.description.specs.Parts.{eachLayer, headRechannelOf, partOf, partsOf, partsTo, rechannelOf, slotsOf, unevenOf}
 use Rattle.description.specs.Sizes.{arrayWidths, historiesOf, largest, layerWidths, pastOf, placeAt, placeOf, positionsOf, total, weightsOf, widestOf}
 use Rattle.description.specs.Ranges.{ArrayRanges, Between, Fits, LayerRanges}
 use Rattle.description.specs.Refusals.{breaksLayer, headWidth, most, refusalOf, refused1, refused2, refused3, refused4, refused5, unmatchedOf}
 use Rattle.description.specs.declared.records.ArrayRecord.{ArrayRecord}
-use Rattle.description.specs.declared.records.LayerRecord.{LayerRecord}
 use Rattle.description.specs.declared.parts.Part.{Part}
 use Rattle.description.specs.declared.parts.Part.the-variants.{Absent, There}
-use Rattle.description.specs.declared.places.Place.{Place}
 use Rattle.description.proofs.Folds.{each-at, left-false, length-each, none-below, none-of, right-false}
 use Rattle.description.proofs.Passing.{largest-append, past-one}
 use Rattle.description.proofs.Ranging.{array-ranges, layer-ranges, layers-between}
@@ -261,7 +259,7 @@ module _ (d : List ℕ) (ok : refusalOf d ≡ 0) where
       omega (
         arith,
         le-largest (arrayWidths (arrayOf d)) i,
-        largest-append (arrayWidths (arrayOf d)) (eachLayer (λ l. layerWidths (layerOf d l)) (layerCount d))
+        largest-append (arrayWidths (arrayOf d)) (eachLayer (λ l. layerWidths (layerOf d l)) (layerCount d)),
       )
 
   pub layer-width-le : (l i : ℕ) → l < layerCount d → i < 3 → getD (layerWidths (layerOf d l)) i 0 ≤ widestOf d
@@ -270,7 +268,7 @@ module _ (d : List ℕ) (ok : refusalOf d ≡ 0) where
       omega (
         arith,
         layer-width (layerCount d) l i lt it,
-        largest-append (arrayWidths (arrayOf d)) (eachLayer (λ l. layerWidths (layerOf d l)) (layerCount d))
+        largest-append (arrayWidths (arrayOf d)) (eachLayer (λ l. layerWidths (layerOf d l)) (layerCount d)),
       )
 
   -- the widths of one layer, and of the array
@@ -298,7 +296,7 @@ module _ (d : List ℕ) (ok : refusalOf d ≡ 0) where
         arith,
         largest-append (eachLayer (λ l. layerWidths (layerOf d l)) n) (layerWidths (layerOf d n)),
         layers-most n (omega arith),
-        layer-most n le
+        layer-most n le,
       )
 
   pub widest-most : widestOf d ≤ 64
@@ -308,7 +306,7 @@ module _ (d : List ℕ) (ok : refusalOf d ≡ 0) where
         arith,
         largest-append (arrayWidths (arrayOf d)) (eachLayer (λ l. layerWidths (layerOf d l)) (layerCount d)),
         array-most,
-        layers-most (layerCount d) (omega arith)
+        layers-most (layerCount d) (omega arith),
       )
 
   pub widest-least : 1 ≤ widestOf d

@@ -1,17 +1,16 @@
 -- Laws on counts over a list of parts: end to end, one part more, and bounds. Assumes nothing.
 use mathlib.Core.Path.{_≡_, refl, sym, _∙_, ap, subst}
-use mathlib.Core.Bool.{Bool, true, false, or-assoc, or-false, _||_}
+use mathlib.Core.Bool.{Bool, or-assoc, or-false, _||_}
 use mathlib.Core.List.{List, [], _∷_, _++_}
-use Prim.Native.Nat.{ℕ, zero, suc, _+_, _*_, _≤_, _<_, max}
+use Prim.Native.Nat.{ℕ, zero, suc, _+_, _*_, _≤_, _<_}
 use native.Mathlib.Nat.{add-assoc, add-zero, suc-mul, zero-add}
 use native.Mathlib.Numerals.{add-one}
 use native.Mathlib.Omega.{arith}
 use lib.ListN.{getD, length, take}
 use lib.Seq.{take-all, take-length, take-suc}
-use Rattle.shape.specs.declared.Shape.{Shape}
 use Rattle.shape.proofs.Bounds.{history-count-le, weight-le}
 use Rattle.description.specs.Parts.{unevenOf}
-use Rattle.description.specs.Sizes.{historiesOf, largest, pastOf, placeOf, positionsOf, total, weightsOf}
+use Rattle.description.specs.Sizes.{historiesOf, pastOf, positionsOf, total, weightsOf}
 use Rattle.description.specs.Ranges.{Fits, Low}
 use Rattle.description.specs.Tally.{countAll, pastAll}
 use Rattle.description.specs.Tests.{any}
@@ -70,7 +69,7 @@ past-take place ps k lt =
       total-take positionsOf ps k lt,
       add-assoc (place .weights) (total weightsOf (take k ps)) (weightsOf (getD ps k Absent)),
       add-assoc (place .histories) (total historiesOf (take k ps)) (historiesOf (getD ps k Absent)),
-      add-assoc (place .positions) (total positionsOf (take k ps)) (positionsOf (getD ps k Absent))
+      add-assoc (place .positions) (total positionsOf (take k ps)) (positionsOf (getD ps k Absent)),
     )
 
 pub past-none : (place : Place) → place ≡ pastAll place []

@@ -7,7 +7,6 @@ use lib.ListN.{getD, length}
 use Rattle.description.specs.Tests.{anyBelow}
 
 infix 30 _to_
-
 -- the lowest and the highest number
 abbrev pub _to_ : ℕ → ℕ → List ℕ
 low to high = low ∷ high ∷ []

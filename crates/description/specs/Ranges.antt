@@ -1,4 +1,4 @@
--- What the ranges and zero rules leave of the records and of a part: what the functions that make and count parts ask. Document 01, 'Description'.
+-- What the ranges and zero rules leave of the records and of a part: what the functions inside `check` ask of their callers. Document 01, 'Description'.
 use mathlib.Core.Path.{_≡_}
 use Prim.Native.Nat.{ℕ, _≤_}
 use Rattle.shape.specs.declared.Shape.{Shape}

@@ -1,6 +1,6 @@
 -- The records that the numbers of a description stand for. Document 01, 'Description' (the table of places).
 use mathlib.Core.List.{List, [], _∷_}
-use Prim.Native.Nat.{ℕ, _+_, _*_}
+use Prim.Native.Nat.{ℕ, _+_}
 use lib.Dec.{eqb}
 use lib.ListN.{getD}
 use lib.Ieee.{ofBits, binary32}

@@ -1,7 +1,7 @@
 -- The refusal numbers 1 to 5: "given exactly when". Each test presumes the lower ones passed. Document 01, 'Refusal numbers'.
 use mathlib.Core.List.{List}
 use mathlib.Core.Bool.{Bool, cond, not, _&&_, _||_}
-use Prim.Native.Nat.{ℕ, _+_, _*_}
+use Prim.Native.Nat.{ℕ}
 use lib.Dec.{eqb, ltb}
 use lib.ListN.{length}
 use Rattle.description.specs.Numbers.{headLength, layerCount, recordAt}

@@ -2,7 +2,6 @@
 use mathlib.Core.List.{List, [], _∷_, _++_}
 use Prim.Native.Nat.{ℕ, zero, suc, _+_, _-_, _*_, max}
 use lib.ListN.{take}
-use Rattle.shape.specs.declared.Shape.{Shape}
 use Rattle.shape.specs.Counts.{historyCount, weightCount}
 use Rattle.description.specs.Numbers.{layerCount}
 use Rattle.description.specs.Records.{arrayOf, layerOf}

@@ -1,7 +1,8 @@
--- What one pass over a description adds up, layer by layer, and the answer that follows from it.
+-- What one pass over a description adds up, layer by layer, and the answer that follows from it: for the contracts of the functions inside `check`,
+-- whose own promise (Answers) does not rest on it.
 use mathlib.Core.List.{List, [], _∷_}
-use mathlib.Core.Bool.{Bool, false, cond, _||_}
-use Prim.Native.Nat.{ℕ, _+_, _≤_, max}
+use mathlib.Core.Bool.{false, cond, _||_}
+use Prim.Native.Nat.{_+_, _≤_, max}
 use lib.Dec.{ltb}
 use Rattle.description.specs.Tests.{any}
 use Rattle.description.specs.Parts.{headRechannelOf, rechannelOf, slotsOf, unevenOf}

@@ -1,8 +1,11 @@
 // The check of a description, in one pass. It changes nothing; it hands back the refusal or the sizes. Document 01, 'Refusal numbers' 1 to 5.
 ghost use Rattle.description.specs.Answers.{Answers};
-use crate::answers::{Checked, LayerAnswer};
-use crate::limits::{breaks_range, ARRAY_LIMITS};
-use crate::numbers::{HEAD_LENGTH, RECORD_LENGTH};
+use crate::answers::Checked;
+use crate::answers::LayerAnswer;
+use crate::limits::ARRAY_LIMITS;
+use crate::limits::breaks_range;
+use crate::numbers::HEAD_LENGTH;
+use crate::numbers::RECORD_LENGTH;
 use crate::read::read_layer;
 use crate::records::read_array;
 use crate::tally::Tally;

@@ -3,7 +3,8 @@ ghost use mathlib.Core.Path.{_≡_};
 ghost use Prim.Native.Nat.{_+_, _≤_};
 ghost use lib.ListN.{length};
 ghost use Rattle.description.specs.Limits.{breaksRange};
-use crate::numbers::{HEAD_LENGTH, RECORD_LENGTH};
+use crate::numbers::HEAD_LENGTH;
+use crate::numbers::RECORD_LENGTH;
 
 // The lowest and the highest number at each place of the array.
 pub const ARRAY_LIMITS: [[u32; 2]; HEAD_LENGTH] = [

@@ -6,7 +6,9 @@ ghost use Rattle.description.specs.Parts.{convOf, head1x1Of, headRechann
 ghost use Rattle.shape.specs.Counts.{InRange};
 ghost use Rattle.description.specs.declared.parts.Part.the-variants.{There};
 ghost use Rattle.description.specs.Ranges.{ArrayRanges, Fits, LayerRanges};
-use crate::records::{ArrayRecord, LayerRecord, Sites};
+use crate::records::ArrayRecord;
+use crate::records::LayerRecord;
+use crate::records::Sites;
 use gating::Mode;
 use shape::Shape;
 

@@ -10,10 +10,17 @@ ghost use Rattle.description.specs.Records.{arrayOf};
 ghost use Rattle.description.specs.Refusals.{refusalOf};
 ghost use Rattle.description.specs.declared.parts.Part.the-variants.{Absent};
 use crate::answers::LayerAnswer;
-use crate::limits::{breaks_range, LAYER_LIMITS};
-use crate::numbers::{HEAD_LENGTH, RECORD_LENGTH, SLOTS};
-use crate::parts::{head_rechannel, rechannel, slot, Part};
-use crate::records::{layer_record, ArrayRecord};
+use crate::limits::LAYER_LIMITS;
+use crate::limits::breaks_range;
+use crate::numbers::HEAD_LENGTH;
+use crate::numbers::RECORD_LENGTH;
+use crate::numbers::SLOTS;
+use crate::parts::Part;
+use crate::parts::head_rechannel;
+use crate::parts::rechannel;
+use crate::parts::slot;
+use crate::records::ArrayRecord;
+use crate::records::layer_record;
 use crate::zeros::breaks_zero_rule;
 
 pub fn read_layer(description: &[u32], l: usize) -> LayerAnswer

@@ -4,9 +4,10 @@ ghost use Prim.Native.Nat.{_+_, _<_, _≤_};
 ghost use lib.ListN.{getD, length};
 ghost use Rattle.description.specs.Numbers.{headLength, recordAt, recordLength};
 ghost use Rattle.description.specs.Records.{activationOf, arrayOf, layerOf, modeOf, sitesOf};
+use crate::numbers::HEAD_LENGTH;
+use crate::numbers::RECORD_LENGTH;
 use activation::Activation;
 use gating::Mode;
-use crate::numbers::{HEAD_LENGTH, RECORD_LENGTH};
 
 // The array's eight numbers.
 pub struct ArrayRecord {

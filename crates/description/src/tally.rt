@@ -7,11 +7,18 @@ ghost use Rattle.description.specs.Ranges.{ArrayRanges, LayerRanges, Low
 ghost use Rattle.description.specs.Refusals.{unmatchedOf};
 ghost use Rattle.description.specs.Sizes.{arrayWidths, largest, layerWidths};
 ghost use Rattle.description.specs.Tally.{LowTally, answerOf, countAll, startOf, withLayer};
-use crate::answers::{Checked, Sizes};
-use crate::numbers::{MOST, SLOTS};
-use crate::parts::{doubled, head_rechannel, rechannel, slot, uneven};
+use crate::answers::Checked;
+use crate::answers::Sizes;
+use crate::numbers::MOST;
+use crate::numbers::SLOTS;
+use crate::parts::doubled;
+use crate::parts::head_rechannel;
+use crate::parts::rechannel;
+use crate::parts::slot;
+use crate::parts::uneven;
 use crate::places::Place;
-use crate::records::{ArrayRecord, LayerRecord};
+use crate::records::ArrayRecord;
+use crate::records::LayerRecord;
 
 // The place past some parts, and whether one of them is uneven.
 pub struct Counted {
@@ -75,10 +82,7 @@ fn count(start: Counted, a: ArrayRecord, r: LayerRecord) -> Counted
         odd = odd | uneven(part);
         place = place.past(part);
     }
-    Counted {
-        place,
-        uneven: odd,
-    }
+    Counted { place, uneven: odd }
 }
 
 impl Tally {

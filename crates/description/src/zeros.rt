@@ -54,5 +54,7 @@ pub fn breaks_zero_rule(description: &[u32], at: usize) -> bool
     requires { ⌜ at + recordLength ≤ length (now description) ⌝ }
     ensures { λ r. ⌜ r ≡ breaksZeroRule (now (description .entry)) at ⌝ }
 {
-    breaks_activations(description, at) | breaks_parts(description, at) | breaks_sites(description, at)
+    breaks_activations(description, at)
+        | breaks_parts(description, at)
+        | breaks_sites(description, at)
 }

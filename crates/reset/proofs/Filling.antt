@@ -1,11 +1,11 @@
 -- A list filled from the front, for any elements; and the positions of parts, one part more. Assumes nothing.
 use mathlib.Core.Path.{_≡_, refl, sym, _∙_, ap}
 use mathlib.Core.List.{List, [], _∷_, _++_, append-assoc, append-nil}
-use Prim.Native.Nat.{ℕ, zero, suc, _+_, _≤_, _<_}
+use Prim.Native.Nat.{ℕ, suc, _+_, _≤_, _<_}
 use native.Mathlib.Nat.{add-zero}
 use native.Mathlib.Numerals.{add-one}
 use native.Mathlib.Omega.{arith}
-use lib.ListN.{drop, getD, length, length-append, length-drop, length-replicate, replicate, replicate-append-replicate, set, take, drop-of-length-le}
+use lib.ListN.{drop, getD, length, length-append, replicate, replicate-append-replicate, set, take, drop-of-length-le}
 use lib.Seq.{append-snoc, drop-cons, set-at, sets, take-all, take-suc}
 use Rattle.description.specs.Sizes.{positionsOf, total}
 use Rattle.description.proofs.Sound.{within}

@@ -1,6 +1,6 @@
 -- The record of a reset, from what its tests told. Assumes nothing.
 use mathlib.Core.Path.{_≡_, refl, sym, _∙_, ap, subst}
-use mathlib.Core.Bool.{Bool, true, false, not, or-true}
+use mathlib.Core.Bool.{true, not, or-true}
 use mathlib.Core.List.{List}
 use Prim.Native.Nat.{ℕ}
 use lib.Dec.{eqb}
@@ -49,7 +49,7 @@ module _ (d : List ℕ) (histories : List Float) (positions : List ℕ) {checked
 
     pub other-positions : (length positions ≡ s .positions → ⊥) → Resets d histories positions 7 histories positions
     unfolding refused7
-    other-positions ne = mislaid (rw (ne-eqb (length positions) (total positionsOf (partsOf d)) (λ h. ne (h ∙ sym positions-are))) 
+    other-positions ne = mislaid (rw (ne-eqb (length positions) (total positionsOf (partsOf d)) (λ h. ne (h ∙ sym positions-are)))
         (or-true (not (eqb (length histories) (total historiesOf (partsOf d))))))
 
     -- every buffer is as long as its size
@@ -66,11 +66,11 @@ module _ (d : List ℕ) (histories : List Float) (positions : List ℕ) {checked
       done silent rewound =
           record {
             number =
-              rw (
-                eq-eqb (refusalOf d) 0 (sizes-is .0),
-                eq-eqb (length histories) (total historiesOf (partsOf d)) (h ∙ histories-are),
-                eq-eqb (length positions) (total positionsOf (partsOf d)) (p ∙ positions-are)
-              );
+                rw (
+                  eq-eqb (refusalOf d) 0 (sizes-is .0),
+                  eq-eqb (length histories) (total historiesOf (partsOf d)) (h ∙ histories-are),
+                  eq-eqb (length positions) (total positionsOf (partsOf d)) (p ∙ positions-are),
+                );
             silent = silent ∙ ap silenceOf (h ∙ histories-are);
             rewound = rewound;
           }

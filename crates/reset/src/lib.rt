@@ -15,7 +15,8 @@ use description::check::check;
 use description::numbers::SLOTS;
 use description::parts::Part;
 use description::read::part_at;
-use description::records::{read_array, ArrayRecord};
+use description::records::ArrayRecord;
+use description::records::read_array;
 
 // Every number +0.
 fn silence(histories: &mut [f32])
@@ -37,7 +38,8 @@ fn rewind_part(positions: &mut [u32], at: usize, part: Part) -> usize
     match part {
         Part::Absent => at,
         Part::There(sh) => {
-            positions[at] = (sh.ring_length() - 1) as u32;
+            let length = sh.ring_length();
+            positions[at] = (length - 1) as u32;
             at + 1
         }
     }

@@ -1,46 +1,32 @@
-use Rattle.description.specs.Parts.{mid, widened}
-use mathlib.Core.Path.{_≡_, refl, sym, _∙_, ap}
-use Prim.Native.Nat.{ℕ, _+_, _*_, _-_, _/_, _%_, _≤_, _<_}
-use native.Mathlib.Omega.{arith}
-use lib.ListN.{length, set, take, drop, length-set}
-use lib.Ieee.{Float, nan, binary32, add, mul}
+-- `doubled` is mid, mode by mode. Assumes nothing.
 use borrow.Author.Needs.{needs}
+use Rattle.description.specs.Parts.{mid, widened}
 use Rattle.description.proofs.parts.doubled.Statement.{statement}
 use Rattle.description.proofs.parts.doubled.Tie as tie
-use Rattle.description.proofs.parts.doubled.Reads as reads
-use Rattle.description.proofs.parts.doubled.Lts as lts
 
--- src/parts.rt:52:23
 enum-told : tie.Need-enum-told
 enum-told c = search needs
 
--- src/parts.rt:53:24
 enum-told-2 : tie.Need-enum-told-2
 enum-told-2 c = search needs
 
--- src/parts.rt:53:24
 mul-result : tie.Need-mul-result
 mul-result c = search needs
 
--- src/parts.rt:54:26
 enum-told-3 : tie.Need-enum-told-3
 enum-told-3 c = search needs
 
--- src/parts.rt:54:26
 mul-result-2 : tie.Need-mul-result-2
 mul-result-2 c = search needs
 
--- src/parts.rt:46:1
 returns : tie.Need-returns
 unfolding mid widened
 returns c = rw (c .enum-told .given .1)
 
--- src/parts.rt:46:1
 returns-2 : tie.Need-returns-2
 unfolding mid widened
 returns-2 c = rw (c .before .enum-told2 .given .1)
 
--- src/parts.rt:46:1
 returns-3 : tie.Need-returns-3
 unfolding mid widened
 returns-3 c = rw (c .before .enum-told3 .given .1)

@@ -1,22 +1,13 @@
+-- `head1x1` is absent exactly where its width is 0. Assumes nothing.
 use borrow.Author.Tests.{ne-eqb, eq-eqb}
 use Rattle.description.specs.Parts.{head1x1Of, unless0}
-use mathlib.Core.Path.{_≡_, refl, sym, _∙_, ap}
-use Prim.Native.Nat.{ℕ, _+_, _*_, _-_, _/_, _%_, _≤_, _<_}
-use native.Mathlib.Omega.{arith}
-use lib.ListN.{length, set, take, drop, length-set}
-use lib.Ieee.{Float, nan, binary32, add, mul}
-use borrow.Author.Needs.{needs}
 use Rattle.description.proofs.parts.head1x1.Statement.{statement}
 use Rattle.description.proofs.parts.head1x1.Tie as tie
-use Rattle.description.proofs.parts.head1x1.Reads as reads
-use Rattle.description.proofs.parts.head1x1.Lts as lts
 
--- src/parts.rt:110:9
 returns : tie.Need-returns
 unfolding head1x1Of unless0
 returns c = rw (eq-eqb _ _ (c .if1 .taken))
 
--- src/parts.rt:105:1
 returns-2 : tie.Need-returns-2
 unfolding head1x1Of unless0
 returns-2 c = rw (ne-eqb _ _ (c .if1 .left))

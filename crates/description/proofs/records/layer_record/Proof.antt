@@ -1,195 +1,143 @@
-use Rattle.description.proofs.Reading.{layer-is}
-use mathlib.Core.Path.{_≡_, refl, sym, _∙_, ap}
-use Prim.Native.Nat.{ℕ, _+_, _*_, _-_, _/_, _%_, _≤_, _<_}
+-- `layer_record` reads each number at its place (Reading). Assumes nothing.
 use native.Mathlib.Omega.{arith}
-use lib.ListN.{length, set, take, drop, length-set}
-use lib.Ieee.{Float, nan, binary32, add, mul}
 use borrow.Author.Needs.{needs}
+use Rattle.description.proofs.Reading.{layer-is}
 use Rattle.description.proofs.records.layer_record.Statement.{statement}
 use Rattle.description.proofs.records.layer_record.Tie as tie
-use Rattle.description.proofs.records.layer_record.Reads as reads
-use Rattle.description.proofs.records.layer_record.Lts as lts
-use Rattle.description.proofs.records.number.Reads as number-reads
-use Rattle.description.proofs.records.read_activation.Reads as read-activation-reads
-use Rattle.description.proofs.records.read_mode.Reads as read-mode-reads
-use Rattle.description.proofs.records.read_sites.Reads as read-sites-reads
 
--- src/records.rt:121:28
 mul-at : tie.Need-mul-at
 mul-at c = search needs
 
--- src/records.rt:121:14
 add-at : tie.Need-add-at
 add-at c = search needs
 
--- src/records.rt:122:38
 add-read-mode : tie.Need-add-read-mode
 add-read-mode c = search needs
 
--- src/records.rt:122:26
 mul-read-mode : tie.Need-mul-read-mode
 mul-read-mode c = search needs
 
--- src/records.rt:122:26
 shared-slice-read-read-mode : tie.Need-shared-slice-read-read-mode
 shared-slice-read-read-mode c = search needs
 
--- src/records.rt:122:9
 read-mode-requires : tie.Need-read-mode-requires
 read-mode-requires c κs = search needs
 
--- src/records.rt:123:47
 add-read-activation : tie.Need-add-read-activation
 add-read-activation c = search needs
 
--- src/records.rt:123:35
 mul-read-activation : tie.Need-mul-read-activation
 mul-read-activation c = search needs
 
--- src/records.rt:123:35
 shared-slice-read-read-activation : tie.Need-shared-slice-read-read-activation
 shared-slice-read-read-activation c = search needs
 
--- src/records.rt:123:68
 add-read-activation-2 : tie.Need-add-read-activation-2
 add-read-activation-2 c = search needs
 
--- src/records.rt:123:56
 mul-read-activation-2 : tie.Need-mul-read-activation-2
 mul-read-activation-2 c = search needs
 
--- src/records.rt:123:56
 shared-slice-read-read-activation-2 : tie.Need-shared-slice-read-read-activation-2
 shared-slice-read-read-activation-2 c = search needs
 
--- src/records.rt:123:9
 read-activation-requires : tie.Need-read-activation-requires
 read-activation-requires c κs = search needs
 
--- src/records.rt:124:49
 add-read-activation-3 : tie.Need-add-read-activation-3
 add-read-activation-3 c = search needs
 
--- src/records.rt:124:37
 mul-read-activation-3 : tie.Need-mul-read-activation-3
 mul-read-activation-3 c = search needs
 
--- src/records.rt:124:37
 shared-slice-read-read-activation-3 : tie.Need-shared-slice-read-read-activation-3
 shared-slice-read-read-activation-3 c = search needs
 
--- src/records.rt:124:70
 add-read-activation-4 : tie.Need-add-read-activation-4
 add-read-activation-4 c = search needs
 
--- src/records.rt:124:58
 mul-read-activation-4 : tie.Need-mul-read-activation-4
 mul-read-activation-4 c = search needs
 
--- src/records.rt:124:58
 shared-slice-read-read-activation-4 : tie.Need-shared-slice-read-read-activation-4
 shared-slice-read-read-activation-4 c = search needs
 
--- src/records.rt:124:9
 read-activation-requires-2 : tie.Need-read-activation-requires-2
 read-activation-requires-2 c κs = search needs
 
--- src/records.rt:125:41
 add-read-sites : tie.Need-add-read-sites
 add-read-sites c = search needs
 
--- src/records.rt:125:9
 read-sites-requires : tie.Need-read-sites-requires
 read-sites-requires c κs = search needs
 
--- src/records.rt:127:21
 number-requires : tie.Need-number-requires
 number-requires c κs = search needs
 
--- src/records.rt:128:37
 add-number : tie.Need-add-number
 add-number c = search needs
 
--- src/records.rt:128:17
 number-requires-2 : tie.Need-number-requires-2
 number-requires-2 c κs = search needs
 
--- src/records.rt:129:39
 add-number-2 : tie.Need-add-number-2
 add-number-2 c = omega (arith, c .before .before .before .before .before .before .before .before .before .before .before .before .pre, c .before .before .before .before .before .before .before .before .before .before .before .before .good)
 
--- src/records.rt:129:19
 number-requires-3 : tie.Need-number-requires-3
 number-requires-3 c κs = search needs
 
--- src/records.rt:130:42
 add-number-3 : tie.Need-add-number-3
 add-number-3 c = omega (arith, c .before .before .before .before .before .before .before .before .before .before .before .before .before .pre, c .before .before .before .before .before .before .before .before .before .before .before .before .before .good)
 
--- src/records.rt:130:22
 number-requires-4 : tie.Need-number-requires-4
 number-requires-4 c κs = search needs
 
--- src/records.rt:131:43
 add-number-4 : tie.Need-add-number-4
 add-number-4 c = omega (arith, c .before .before .before .before .before .before .before .before .before .before .before .before .before .before .pre, c .before .before .before .before .before .before .before .before .before .before .before .before .before .before .good)
 
--- src/records.rt:131:23
 number-requires-5 : tie.Need-number-requires-5
 number-requires-5 c κs = search needs
 
--- src/records.rt:135:46
 add-number-5 : tie.Need-add-number-5
 add-number-5 c = omega (arith, c .before .before .before .before .before .before .before .before .before .before .before .before .before .before .before .pre, c .before .before .before .before .before .before .before .before .before .before .before .before .before .before .before .good)
 
--- src/records.rt:135:26
 number-requires-6 : tie.Need-number-requires-6
 number-requires-6 c κs = search needs
 
--- src/records.rt:136:44
 add-number-6 : tie.Need-add-number-6
 add-number-6 c = omega (arith, c .before .before .before .before .before .before .before .before .before .before .before .before .before .before .before .before .pre, c .before .before .before .before .before .before .before .before .before .before .before .before .before .before .before .before .good)
 
--- src/records.rt:136:24
 number-requires-7 : tie.Need-number-requires-7
 number-requires-7 c κs = search needs
 
--- src/records.rt:137:44
 add-number-7 : tie.Need-add-number-7
 add-number-7 c = omega (arith, c .before .before .before .before .before .before .before .before .before .before .before .before .before .before .before .before .before .pre, c .before .before .before .before .before .before .before .before .before .before .before .before .before .before .before .before .before .good)
 
--- src/records.rt:137:24
 number-requires-8 : tie.Need-number-requires-8
 number-requires-8 c κs = search needs
 
--- src/records.rt:138:45
 add-number-8 : tie.Need-add-number-8
 add-number-8 c = omega (arith, c .before .before .before .before .before .before .before .before .before .before .before .before .before .before .before .before .before .before .pre, c .before .before .before .before .before .before .before .before .before .before .before .before .before .before .before .before .before .before .good)
 
--- src/records.rt:138:25
 number-requires-9 : tie.Need-number-requires-9
 number-requires-9 c κs = search needs
 
--- src/records.rt:139:43
 add-number-9 : tie.Need-add-number-9
 add-number-9 c = omega (arith, c .before .before .before .before .before .before .before .before .before .before .before .before .before .before .before .before .before .before .before .pre, c .before .before .before .before .before .before .before .before .before .before .before .before .before .before .before .before .before .before .before .good)
 
--- src/records.rt:139:23
 number-requires-10 : tie.Need-number-requires-10
 number-requires-10 c κs = omega (arith, c .before .before .before .before .before .before .before .before .before .before .before .before .before .before .before .before .before .before .before .pre, c .before .before .before .before .before .before .before .before .before .before .before .before .before .before .before .before .before .before .before .good)
 
--- src/records.rt:141:41
 add-number-10 : tie.Need-add-number-10
 add-number-10 c = omega (arith, c .before .before .before .before .before .before .before .before .before .before .before .before .before .before .before .before .before .before .before .before .pre, c .before .before .before .before .before .before .before .before .before .before .before .before .before .before .before .before .before .before .before .before .good)
 
--- src/records.rt:141:21
 number-requires-11 : tie.Need-number-requires-11
 number-requires-11 c κs = omega (arith, c .before .before .before .before .before .before .before .before .before .before .before .before .before .before .before .before .before .before .before .before .pre, c .before .before .before .before .before .before .before .before .before .before .before .before .before .before .before .before .before .before .before .before .good)
 
--- src/records.rt:117:1
 returns : tie.Need-returns
-returns c = 
-    layer-is (c .before .before .before .before .before .before .before .before .before .before .before .before .before .before .before .before .before .before .before .before .before .args .description .now) (c .before .before .before .before .before .before .before .before .before .before .before .before .before .before .before .before .before .before .before .before .before .args .l) (c .before .before .before .before .before .before .before .before .before .before .number .ensures) (c .before .before .before .before .before .before .before .before .before .number2 .ensures) (c .before .before .before .before .before .before .before .before .number3 .ensures) (c .before .before .before .before .before .before .before .number4 .ensures) (c .before .before .before .before .before .before .number5 .ensures) (c .before .before .before .before .before .number6 .ensures) (c .before .before .before .before .number7 .ensures) (c .before .before .before .number8 .ensures) (c .before .before .number9 .ensures) (c .before .number10 .ensures) (c .number11 .ensures) (c .before .before .before .before .before .before .before .before .before .before .before .before .before .before .before .before .before .before .read-mode .ensures) (c .before .before .before .before .before .before .before .before .before .before .before .before .before .before .before .read-activation .ensures) (c .before .before .before .before .before .before .before .before .before .before .before .before .read-activation2 .ensures) (c .before .before .before .before .before .before .before .before .before .before .before .read-sites .ensures)
+returns c =
+    let args = c .before .before .before .before .before .before .before .before .before .before .before .before .before .before .before .before .before .before .before .before .before .args in
+    layer-is (args .description .now) (args .l) (c .before .before .before .before .before .before .before .before .before .before .number .ensures) (c .before .before .before .before .before .before .before .before .before .number2 .ensures) (c .before .before .before .before .before .before .before .before .number3 .ensures) (c .before .before .before .before .before .before .before .number4 .ensures) (c .before .before .before .before .before .before .number5 .ensures) (c .before .before .before .before .before .number6 .ensures) (c .before .before .before .before .number7 .ensures) (c .before .before .before .number8 .ensures) (c .before .before .number9 .ensures) (c .before .number10 .ensures) (c .number11 .ensures) (c .before .before .before .before .before .before .before .before .before .before .before .before .before .before .before .before .before .before .read-mode .ensures) (c .before .before .before .before .before .before .before .before .before .before .before .before .before .before .before .read-activation .ensures) (c .before .before .before .before .before .before .before .before .before .before .before .before .read-activation2 .ensures) (c .before .before .before .before .before .before .before .before .before .before .before .read-sites .ensures)
 
 pub layer-record-spec : {M : Type 1} → statement M
 layer-record-spec =

@@ -1,29 +1,18 @@
-use Rattle.description.proofs.Totals.{count-end, low-on, odd-take, past-low, past-none, past-take}
-use Rattle.description.specs.declared.places.Place.{Place}
-use Rattle.description.specs.declared.tally.Counted.{Counted}
-use lib.Seq.{take-all}
-use lib.ListN.{getD}
-use Rattle.description.specs.declared.parts.Part.the-variants.{Absent}
+-- `count` adds a layer's slots. The loop's invariant: place and flag are those past the first k slots (Totals). Assumes nothing.
 use mathlib.Core.Bool.{_||_, or-false}
-use Rattle.description.proofs.Totals.{low-on, odd-take, past-low, past-none, past-take}
-use Rattle.description.proofs.Slots.{slot-fits}
-use Rattle.description.specs.Ranges.{ArrayRanges, LayerRanges, Low}
-use Rattle.description.specs.Tally.{countAll, pastAll}
-use Rattle.description.specs.Tests.{any}
-use Rattle.description.specs.Parts.{partOf, slotsOf, unevenOf}
-use mathlib.Core.Path.{_≡_, refl, sym, _∙_, ap}
-use Prim.Native.Nat.{ℕ, _+_, _*_, _-_, _/_, _%_, _≤_, _<_}
+use mathlib.Core.Path.{_≡_, sym}
+use Prim.Native.Nat.{_-_, _≤_}
 use native.Mathlib.Omega.{arith}
-use lib.ListN.{length, set, take, drop, length-set}
-use lib.Ieee.{Float, nan, binary32, add, mul}
+use lib.ListN.{take}
 use borrow.Author.Needs.{needs}
+use Rattle.description.specs.Parts.{partOf, slotsOf, unevenOf}
+use Rattle.description.specs.Ranges.{ArrayRanges, LayerRanges, Low}
+use Rattle.description.specs.Tally.{pastAll}
+use Rattle.description.specs.Tests.{any}
+use Rattle.description.proofs.Slots.{slot-fits}
+use Rattle.description.proofs.Totals.{count-end, low-on, odd-take, past-low, past-none, past-take}
 use Rattle.description.proofs.tally.count.Statement.{statement}
 use Rattle.description.proofs.tally.count.Tie as tie
-use Rattle.description.proofs.tally.count.Reads as reads
-use Rattle.description.proofs.tally.count.Lts as lts
-use Rattle.description.proofs.parts.slot.Reads as slot-reads
-use Rattle.description.proofs.parts.uneven.Reads as uneven-reads
-use Rattle.description.proofs.places.Place.past.Reads as past-reads
 
 abbrev Inv-loop : tie.InvT-loop
 Inv-loop a r place₀ odd₀ k₀ place odd k =
@@ -32,53 +21,50 @@ Inv-loop a r place₀ odd₀ k₀ place odd k =
 abbrev μ-loop : tie.MeasureT-loop
 μ-loop a r place₀ odd₀ k₀ place odd k = 12 - k
 
--- src/tally.rt:73:5
 loop-holds : tie.Need-loop-holds Inv-loop μ-loop
 unfolding any
 loop-holds c = (search needs, c .before .pre .1 .0, c .before .pre .1 .1, c .before .pre .0, past-none (c .before .args .start .place), sym (or-false (c .before .args .start .uneven)))
 
--- src/tally.rt:74:13
 slot-requires : tie.Need-slot-requires Inv-loop μ-loop
 slot-requires c κs = (c .before .loop .inv .1, (c .before .loop .inv .2, search needs))
 
--- src/tally.rt:75:21
 uneven-requires : tie.Need-uneven-requires Inv-loop μ-loop
 uneven-requires c κs = rw (c .slot .ensures) (slot-fits (c .before .before .loop .inv .1) (c .before .before .loop .inv .2) (c .before .before .loop .k))
 
--- src/tally.rt:76:9
 past-requires : tie.Need-past-requires Inv-loop μ-loop
 unfolding partOf
-past-requires c κs = 
-    (
-      rw (c .before .before .before .loop .inv .4) (low-on (past-low _ (c .before .before .before .before .before .args .start .place) (slotsOf (c .before .before .before .before .before .args .a) (c .before .before .before .before .before .args .r)) (c .before .before .before .loop .inv .3) (λ i. slot-fits (c .before .before .before .loop .inv .1) (c .before .before .before .loop .inv .2) i) (c .before .before .before .loop .k)) (omega arith)),
-      rw (c .before .slot .ensures) (slot-fits (c .before .before .before .loop .inv .1) (c .before .before .before .loop .inv .2) (c .before .before .before .loop .k)),
+past-requires c κs =
+    let args = c .before .before .before .before .before .args in
+    let loop = c .before .before .before .loop in (
+      rw (loop .inv .4) (low-on (past-low _ (args .start .place) (slotsOf (args .a) (args .r)) (loop .inv .3) (λ i. slot-fits (loop .inv .1) (loop .inv .2) i) (loop .k)) (omega arith)),
+      rw (c .before .slot .ensures) (slot-fits (loop .inv .1) (loop .inv .2) (loop .k)),
     )
 
--- src/tally.rt:73:9
 add-k : tie.Need-add-k Inv-loop μ-loop
 add-k c = search needs
 
--- src/tally.rt:73:5
 loop-less : tie.Need-loop-less Inv-loop μ-loop
 loop-less c = search needs
 
--- src/tally.rt:73:5
 loop-again : tie.Need-loop-again Inv-loop μ-loop
 unfolding partOf slotsOf
-loop-again c = 
-    (
+loop-again c =
+    let args = c .before .before .before .before .before .before .args in
+    let loop = c .before .before .before .before .loop in
+    let slot = c .before .before .slot in (
       search needs,
-      c .before .before .before .before .loop .inv .1,
-      c .before .before .before .before .loop .inv .2,
-      c .before .before .before .before .loop .inv .3,
-      rw (c .past .ensures, c .before .before .slot .ensures, c .before .before .before .before .loop .inv .4) (past-take (c .before .before .before .before .before .before .args .start .place) (slotsOf (c .before .before .before .before .before .before .args .a) (c .before .before .before .before .before .before .args .r)) (c .before .before .before .before .loop .k) (omega arith)),
-      rw (c .before .uneven .ensures, c .before .before .slot .ensures, c .before .before .before .before .loop .inv .5) (odd-take (c .before .before .before .before .before .before .args .start .uneven) (slotsOf (c .before .before .before .before .before .before .args .a) (c .before .before .before .before .before .before .args .r)) (c .before .before .before .before .loop .k) (omega arith)),
+      loop .inv .1,
+      loop .inv .2,
+      loop .inv .3,
+      rw (c .past .ensures, slot .ensures, loop .inv .4) (past-take (args .start .place) (slotsOf (args .a) (args .r)) (loop .k) (omega arith)),
+      rw (c .before .uneven .ensures, slot .ensures, loop .inv .5) (odd-take (args .start .uneven) (slotsOf (args .a) (args .r)) (loop .k) (omega arith)),
     )
 
--- src/tally.rt:65:1
 returns : tie.Need-returns Inv-loop μ-loop
 unfolding slotsOf
-returns c = count-end (c .before .before .before .args .start) (slotsOf (c .before .before .before .args .a) (c .before .before .before .args .r)) (c .before .loop .k) _ _ (c .before .loop .inv .4) (c .before .loop .inv .5) (omega arith)
+returns c =
+    let args = c .before .before .before .args in
+    count-end (args .start) (slotsOf (args .a) (args .r)) (c .before .loop .k) _ _ (c .before .loop .inv .4) (c .before .loop .inv .5) (omega arith)
 
 pub count-spec : {M : Type 1} → statement M
 count-spec =

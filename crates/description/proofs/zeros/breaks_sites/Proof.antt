@@ -1,18 +1,15 @@
+-- `breaks_sites` walks the sites. The loop's invariant: the flag says whether a site passed is absent with its bit set. Assumes nothing.
 use mathlib.Core.Bool.{_&&_}
-use lib.ListN.{getD}
-use Rattle.description.specs.ZeroRules.{breaksSites, none, bit}
-use Rattle.description.specs.Tests.{anyBelow}
-use Rattle.description.proofs.Folds.{any-more, any-end}
-use mathlib.Core.Path.{_≡_, refl, sym, _∙_, ap}
-use Prim.Native.Nat.{ℕ, _+_, _*_, _-_, _/_, _%_, _≤_, _<_}
+use mathlib.Core.Path.{_≡_, refl}
+use Prim.Native.Nat.{_+_, _-_, _≤_}
 use native.Mathlib.Omega.{arith}
-use lib.ListN.{length, set, take, drop, length-set}
-use lib.Ieee.{Float, nan, binary32, add, mul}
+use lib.ListN.{getD, length}
 use borrow.Author.Needs.{needs}
+use Rattle.description.specs.Tests.{anyBelow}
+use Rattle.description.specs.ZeroRules.{breaksSites, none, bit}
+use Rattle.description.proofs.Folds.{any-more, any-end}
 use Rattle.description.proofs.zeros.breaks_sites.Statement.{statement}
 use Rattle.description.proofs.zeros.breaks_sites.Tie as tie
-use Rattle.description.proofs.zeros.breaks_sites.Reads as reads
-use Rattle.description.proofs.zeros.breaks_sites.Lts as lts
 
 abbrev Inv-loop : tie.InvT-loop
 Inv-loop description at bits broken₀ i₀ broken i =
@@ -21,64 +18,51 @@ Inv-loop description at bits broken₀ i₀ broken i =
 abbrev μ-loop : tie.MeasureT-loop
 μ-loop description at bits broken₀ i₀ broken i = 8 - i
 
--- src/zeros.rt:44:28
 add-bits : tie.Need-add-bits Inv-loop μ-loop
 add-bits c = search needs
 
--- src/zeros.rt:44:16
 mul-bits : tie.Need-mul-bits Inv-loop μ-loop
 mul-bits c = search needs
 
--- src/zeros.rt:44:16
 shared-slice-read-bits : tie.Need-shared-slice-read-bits Inv-loop μ-loop
 shared-slice-read-bits c = search needs
 
--- src/zeros.rt:46:5
 loop-holds : tie.Need-loop-holds Inv-loop μ-loop
 unfolding anyBelow
 loop-holds c = (search needs, search needs, refl, refl)
 
--- src/zeros.rt:47:40
 add-groups : tie.Need-add-groups Inv-loop μ-loop
 add-groups c = search needs
 
--- src/zeros.rt:47:34
 add-groups-2 : tie.Need-add-groups-2 Inv-loop μ-loop
 add-groups-2 c = search needs
 
--- src/zeros.rt:47:22
 mul-groups : tie.Need-mul-groups Inv-loop μ-loop
 mul-groups c = search needs
 
--- src/zeros.rt:47:22
 shared-slice-read-groups : tie.Need-shared-slice-read-groups Inv-loop μ-loop
 shared-slice-read-groups c = search needs
 
--- src/zeros.rt:48:53
 cast-broken : tie.Need-cast-broken Inv-loop μ-loop
 cast-broken c = search needs
 
--- src/zeros.rt:48:45
 shr-broken : tie.Need-shr-broken Inv-loop μ-loop
 shr-broken c = search needs
 
--- src/zeros.rt:46:9
 add-i : tie.Need-add-i Inv-loop μ-loop
 add-i c = search needs
 
--- src/zeros.rt:46:5
 loop-less : tie.Need-loop-less Inv-loop μ-loop
 loop-less c = search needs
 
--- src/zeros.rt:46:5
 loop-again : tie.Need-loop-again Inv-loop μ-loop
 loop-again c = (search needs, search needs, search needs, any-more _ _ (c .before .before .loop .inv .3))
 
--- src/zeros.rt:40:1
 returns : tie.Need-returns Inv-loop μ-loop
 unfolding breaksSites
-returns c = 
-    any-end (c .before .loop .i) 8 (λ i. none (getD (c .before .before .before .args .description .now) (c .before .before .before .args .at + (15 + i)) 0) && bit (getD (c .before .before .before .args .description .now) (c .before .before .before .args .at + 23) 0) i) (c .before .loop .inv .3)
+returns c =
+    let args = c .before .before .before .args in
+    any-end (c .before .loop .i) 8 (λ i. none (getD (args .description .now) (args .at + (15 + i)) 0) && bit (getD (args .description .now) (args .at + 23) 0) i) (c .before .loop .inv .3)
     (omega arith)
 
 pub breaks-sites-spec : {M : Type 1} → statement M

@@ -1,48 +1,41 @@
+-- `answer` tells 3, 4, 5 or the sizes, with the head rechannel as the last part. Assumes nothing.
+use mathlib.Core.Path.{_∙_, ap}
+use native.Mathlib.Omega.{arith}
+use borrow.Author.Needs.{needs}
 use Rattle.description.specs.Tally.{answerAt, answerOf}
 use Rattle.description.proofs.Passing.{sound, too-many}
-use Rattle.description.specs.Tally.{answerOf}
-use Rattle.description.proofs.Totals.{low-on}
 use Rattle.description.proofs.Slots.{head-rechannel-fits}
-use mathlib.Core.Path.{_≡_, refl, sym, _∙_, ap}
-use Prim.Native.Nat.{ℕ, _+_, _*_, _-_, _/_, _%_, _≤_, _<_}
-use native.Mathlib.Omega.{arith}
-use lib.ListN.{length, set, take, drop, length-set}
-use lib.Ieee.{Float, nan, binary32, add, mul}
-use borrow.Author.Needs.{needs}
+use Rattle.description.proofs.Totals.{low-on}
 use Rattle.description.proofs.tally.Tally.answer.Statement.{statement}
 use Rattle.description.proofs.tally.Tally.answer.Tie as tie
-use Rattle.description.proofs.tally.Tally.answer.Reads as reads
-use Rattle.description.proofs.tally.Tally.answer.Lts as lts
-use Rattle.description.proofs.parts.head_rechannel.Reads as head-rechannel-reads
-use Rattle.description.proofs.places.Place.past.Reads as past-reads
 
--- src/tally.rt:135:33
 head-rechannel-requires : tie.Need-head-rechannel-requires
 head-rechannel-requires c κs = search needs
 
--- src/tally.rt:135:13
 past-requires : tie.Need-past-requires
 past-requires c κs = (low-on (c .before .before .before .pre .0 .place) (omega arith), rw (c .head-rechannel .ensures) (head-rechannel-fits (c .before .before .before .pre .1)))
 
--- src/tally.rt:137:13
 returns : tie.Need-returns
 unfolding answerOf answerAt
 returns c = rw (c .if1 .taken)
 
--- src/tally.rt:141:13
 returns-2 : tie.Need-returns-2
 unfolding answerOf answerAt
 returns-2 c = rw (c .before .if1 .left, c .if2 .taken)
 
--- src/tally.rt:144:13
 returns-3 : tie.Need-returns-3
 unfolding answerOf
-returns-3 c = too-many (c .before .before .before .before .before .before .before .before .before .args .self) (c .before .before .before .before .before .past .result) (c .before .before .before .before .if1 .left) (c .before .before .before .if2 .left) (c .if3 .taken) ∙ ap (answerAt (c .before .before .before .before .before .before .before .before .before .args .self)) (rw (c .before .before .before .before .before .before .head-rechannel .ensures) at (c .before .before .before .before .before .past .ensures))
+returns-3 c =
+    let args = c .before .before .before .before .before .before .before .before .before .args in
+    let past = c .before .before .before .before .before .past in
+    too-many (args .self) (past .result) (c .before .before .before .before .if1 .left) (c .before .before .before .if2 .left) (c .if3 .taken) ∙ ap (answerAt (args .self)) (rw (c .before .before .before .before .before .before .head-rechannel .ensures) at (past .ensures))
 
--- src/tally.rt:128:5
 returns-4 : tie.Need-returns-4
 unfolding answerOf
-returns-4 c = sound (c .before .before .before .before .before .before .before .before .before .args .self) (c .before .before .before .before .before .past .result) (c .before .before .before .before .if1 .left) (c .before .before .before .if2 .left) (c .if3 .left) ∙ ap (answerAt (c .before .before .before .before .before .before .before .before .before .args .self)) (rw (c .before .before .before .before .before .before .head-rechannel .ensures) at (c .before .before .before .before .before .past .ensures))
+returns-4 c =
+    let args = c .before .before .before .before .before .before .before .before .before .args in
+    let past = c .before .before .before .before .before .past in
+    sound (args .self) (past .result) (c .before .before .before .before .if1 .left) (c .before .before .before .if2 .left) (c .if3 .left) ∙ ap (answerAt (args .self)) (rw (c .before .before .before .before .before .before .head-rechannel .ensures) at (past .ensures))
 
 pub answer-spec : {M : Type 1} → statement M
 answer-spec =
