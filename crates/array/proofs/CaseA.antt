@@ -15,7 +15,7 @@ use Rattle.film.specs.Modulated.{modulated, modulationOf, filmed}
 use Rattle.activation.specs.Activated.{relu, leaky, sigmoid, activated}
 use Rattle.gating.specs.Joined.{inputRows, blend, joined}
 use Rattle.description.specs.Limits.{arrayLimits, layerLimits, breaksRange}
-use Rattle.description.specs.Parts.{widened, mid, unless0, siteGroups, rechannelOf, headRechannelOf, convOf, mixinOf, layer1x1Of, head1x1Of, siteWidth, siteOf, slotsOf, partOf, eachLayer, partsTo, partsOf, unevenOf}
+use Rattle.description.specs.Parts.{mid, unless0, siteGroups, rechannelOf, headRechannelOf, convOf, mixinOf, layer1x1Of, head1x1Of, siteWidth, siteOf, slotsOf, partOf, eachLayer, partsTo, partsOf, unevenOf}
 use Rattle.description.specs.Records.{arrayOf, modeOf, activationOf, sitesOf, layerOf}
 use Rattle.description.specs.Refusals.{refused1, breaksLayer, refused2, refused3, headWidth, unmatchedOf, refused4, refused5, refusalOf}
 use Rattle.description.specs.Sizes.{weightsOf, historiesOf, positionsOf, total, placeOf, pastOf, placeAt, largest, widestOf, sumBelow, depthOf, sizesOf}
@@ -51,21 +51,21 @@ caseA = record {
 }
 
 refusal : blockRefusal caseA 4 ≡ 0
-unfolding ofBits toBits add mul sub lt tab fill rows sumFrom ringLength inputsPerGroup outputsPerGroup kernelCount weightCount historyCount nextPlace placeBack push past seen memory.after startOf stepsBack channelOf weightIndex tapFrom tapsFrom output modulated modulationOf filmed relu leaky sigmoid activated inputRows blend joined arrayLimits layerLimits breaksRange widened mid unless0 siteGroups rechannelOf headRechannelOf convOf mixinOf layer1x1Of head1x1Of siteWidth siteOf slotsOf partOf eachLayer partsTo partsOf unevenOf arrayOf modeOf activationOf sitesOf layerOf refused1 breaksLayer refused2 refused3 headWidth unmatchedOf refused4 refused5 refusalOf weightsOf historiesOf positionsOf total placeOf pastOf placeAt largest widestOf sumBelow depthOf sizesOf anyBelow any breaksActivations breaksParts breaksSites breaksZeroRule weightsIn memoryIn pushed convolved sited pushedAll applies appliedSite site′ site convInput conv′ convOutput mixinInput mixin′ mixinOutput z gated head1x1′ contribution accumulated layer1x1′ signal column.after through stepped statesAfter columnsAfter allAre limit allows taken keepsFrom keepsRule partAt firstPart partCount weightsOfPart next rechannelled layered headed out memoryOfPart memoriesOf allMemories historiesJoined positionsJoined historiesFrom positionsFrom columnIn columnsIn blockOf refused6 refused7 beyond refused8 refused9 columnRefusal blockRefusal plannedRefusal statesFrom columnsFrom brought historiesPlayed positionsPlayed headPlayed arrayPlayed
+unfolding ofBits toBits add mul sub lt tab fill rows sumFrom ringLength inputsPerGroup outputsPerGroup kernelCount weightCount historyCount nextPlace placeBack push past seen memory.after startOf stepsBack channelOf weightIndex tapFrom tapsFrom output modulated modulationOf filmed relu leaky sigmoid activated inputRows blend joined arrayLimits layerLimits breaksRange mid unless0 siteGroups rechannelOf headRechannelOf convOf mixinOf layer1x1Of head1x1Of siteWidth siteOf slotsOf partOf eachLayer partsTo partsOf unevenOf arrayOf modeOf activationOf sitesOf layerOf refused1 breaksLayer refused2 refused3 headWidth unmatchedOf refused4 refused5 refusalOf weightsOf historiesOf positionsOf total placeOf pastOf placeAt largest widestOf sumBelow depthOf sizesOf anyBelow any breaksActivations breaksParts breaksSites breaksZeroRule weightsIn memoryIn pushed convolved sited pushedAll applies appliedSite site′ site convInput conv′ convOutput mixinInput mixin′ mixinOutput z gated head1x1′ contribution accumulated layer1x1′ signal column.after through stepped statesAfter columnsAfter allAre limit allows taken keepsFrom keepsRule partAt firstPart partCount weightsOfPart next rechannelled layered headed out memoryOfPart memoriesOf allMemories historiesJoined positionsJoined historiesFrom positionsFrom columnIn columnsIn blockOf refused6 refused7 beyond refused8 refused9 columnRefusal blockRefusal plannedRefusal statesFrom columnsFrom brought historiesPlayed positionsPlayed headPlayed arrayPlayed
 refusal = refl
 
 heads : map (toBits binary32) (headPlayed caseA 4) ≡ 0x40400000 ∷ 0x40c00000 ∷ 0x41400000 ∷ 0 ∷ []
-unfolding ofBits toBits add mul sub lt tab fill rows sumFrom ringLength inputsPerGroup outputsPerGroup kernelCount weightCount historyCount nextPlace placeBack push past seen memory.after startOf stepsBack channelOf weightIndex tapFrom tapsFrom output modulated modulationOf filmed relu leaky sigmoid activated inputRows blend joined arrayLimits layerLimits breaksRange widened mid unless0 siteGroups rechannelOf headRechannelOf convOf mixinOf layer1x1Of head1x1Of siteWidth siteOf slotsOf partOf eachLayer partsTo partsOf unevenOf arrayOf modeOf activationOf sitesOf layerOf refused1 breaksLayer refused2 refused3 headWidth unmatchedOf refused4 refused5 refusalOf weightsOf historiesOf positionsOf total placeOf pastOf placeAt largest widestOf sumBelow depthOf sizesOf anyBelow any breaksActivations breaksParts breaksSites breaksZeroRule weightsIn memoryIn pushed convolved sited pushedAll applies appliedSite site′ site convInput conv′ convOutput mixinInput mixin′ mixinOutput z gated head1x1′ contribution accumulated layer1x1′ signal column.after through stepped statesAfter columnsAfter allAre limit allows taken keepsFrom keepsRule partAt firstPart partCount weightsOfPart next rechannelled layered headed out memoryOfPart memoriesOf allMemories historiesJoined positionsJoined historiesFrom positionsFrom columnIn columnsIn blockOf refused6 refused7 beyond refused8 refused9 columnRefusal blockRefusal plannedRefusal statesFrom columnsFrom brought historiesPlayed positionsPlayed headPlayed arrayPlayed
+unfolding ofBits toBits add mul sub lt tab fill rows sumFrom ringLength inputsPerGroup outputsPerGroup kernelCount weightCount historyCount nextPlace placeBack push past seen memory.after startOf stepsBack channelOf weightIndex tapFrom tapsFrom output modulated modulationOf filmed relu leaky sigmoid activated inputRows blend joined arrayLimits layerLimits breaksRange mid unless0 siteGroups rechannelOf headRechannelOf convOf mixinOf layer1x1Of head1x1Of siteWidth siteOf slotsOf partOf eachLayer partsTo partsOf unevenOf arrayOf modeOf activationOf sitesOf layerOf refused1 breaksLayer refused2 refused3 headWidth unmatchedOf refused4 refused5 refusalOf weightsOf historiesOf positionsOf total placeOf pastOf placeAt largest widestOf sumBelow depthOf sizesOf anyBelow any breaksActivations breaksParts breaksSites breaksZeroRule weightsIn memoryIn pushed convolved sited pushedAll applies appliedSite site′ site convInput conv′ convOutput mixinInput mixin′ mixinOutput z gated head1x1′ contribution accumulated layer1x1′ signal column.after through stepped statesAfter columnsAfter allAre limit allows taken keepsFrom keepsRule partAt firstPart partCount weightsOfPart next rechannelled layered headed out memoryOfPart memoriesOf allMemories historiesJoined positionsJoined historiesFrom positionsFrom columnIn columnsIn blockOf refused6 refused7 beyond refused8 refused9 columnRefusal blockRefusal plannedRefusal statesFrom columnsFrom brought historiesPlayed positionsPlayed headPlayed arrayPlayed
 heads = refl
 
 arrays : map (toBits binary32) (arrayPlayed caseA 4) ≡ 0x40200000 ∷ 0x41080000 ∷ 0x41680000 ∷ 0xc0f00000 ∷ []
-unfolding ofBits toBits add mul sub lt tab fill rows sumFrom ringLength inputsPerGroup outputsPerGroup kernelCount weightCount historyCount nextPlace placeBack push past seen memory.after startOf stepsBack channelOf weightIndex tapFrom tapsFrom output modulated modulationOf filmed relu leaky sigmoid activated inputRows blend joined arrayLimits layerLimits breaksRange widened mid unless0 siteGroups rechannelOf headRechannelOf convOf mixinOf layer1x1Of head1x1Of siteWidth siteOf slotsOf partOf eachLayer partsTo partsOf unevenOf arrayOf modeOf activationOf sitesOf layerOf refused1 breaksLayer refused2 refused3 headWidth unmatchedOf refused4 refused5 refusalOf weightsOf historiesOf positionsOf total placeOf pastOf placeAt largest widestOf sumBelow depthOf sizesOf anyBelow any breaksActivations breaksParts breaksSites breaksZeroRule weightsIn memoryIn pushed convolved sited pushedAll applies appliedSite site′ site convInput conv′ convOutput mixinInput mixin′ mixinOutput z gated head1x1′ contribution accumulated layer1x1′ signal column.after through stepped statesAfter columnsAfter allAre limit allows taken keepsFrom keepsRule partAt firstPart partCount weightsOfPart next rechannelled layered headed out memoryOfPart memoriesOf allMemories historiesJoined positionsJoined historiesFrom positionsFrom columnIn columnsIn blockOf refused6 refused7 beyond refused8 refused9 columnRefusal blockRefusal plannedRefusal statesFrom columnsFrom brought historiesPlayed positionsPlayed headPlayed arrayPlayed
+unfolding ofBits toBits add mul sub lt tab fill rows sumFrom ringLength inputsPerGroup outputsPerGroup kernelCount weightCount historyCount nextPlace placeBack push past seen memory.after startOf stepsBack channelOf weightIndex tapFrom tapsFrom output modulated modulationOf filmed relu leaky sigmoid activated inputRows blend joined arrayLimits layerLimits breaksRange mid unless0 siteGroups rechannelOf headRechannelOf convOf mixinOf layer1x1Of head1x1Of siteWidth siteOf slotsOf partOf eachLayer partsTo partsOf unevenOf arrayOf modeOf activationOf sitesOf layerOf refused1 breaksLayer refused2 refused3 headWidth unmatchedOf refused4 refused5 refusalOf weightsOf historiesOf positionsOf total placeOf pastOf placeAt largest widestOf sumBelow depthOf sizesOf anyBelow any breaksActivations breaksParts breaksSites breaksZeroRule weightsIn memoryIn pushed convolved sited pushedAll applies appliedSite site′ site convInput conv′ convOutput mixinInput mixin′ mixinOutput z gated head1x1′ contribution accumulated layer1x1′ signal column.after through stepped statesAfter columnsAfter allAre limit allows taken keepsFrom keepsRule partAt firstPart partCount weightsOfPart next rechannelled layered headed out memoryOfPart memoriesOf allMemories historiesJoined positionsJoined historiesFrom positionsFrom columnIn columnsIn blockOf refused6 refused7 beyond refused8 refused9 columnRefusal blockRefusal plannedRefusal statesFrom columnsFrom brought historiesPlayed positionsPlayed headPlayed arrayPlayed
 arrays = refl
 
 histories : map (toBits binary32) (historiesPlayed caseA 4) ≡ 0xc0800000 ∷ 0xc1000000 ∷ 0x40800000 ∷ 0x40c00000 ∷ 0x00000000 ∷ 0x00000000 ∷ 0x00000000 ∷ []
-unfolding ofBits toBits add mul sub lt tab fill rows sumFrom ringLength inputsPerGroup outputsPerGroup kernelCount weightCount historyCount nextPlace placeBack push past seen memory.after startOf stepsBack channelOf weightIndex tapFrom tapsFrom output modulated modulationOf filmed relu leaky sigmoid activated inputRows blend joined arrayLimits layerLimits breaksRange widened mid unless0 siteGroups rechannelOf headRechannelOf convOf mixinOf layer1x1Of head1x1Of siteWidth siteOf slotsOf partOf eachLayer partsTo partsOf unevenOf arrayOf modeOf activationOf sitesOf layerOf refused1 breaksLayer refused2 refused3 headWidth unmatchedOf refused4 refused5 refusalOf weightsOf historiesOf positionsOf total placeOf pastOf placeAt largest widestOf sumBelow depthOf sizesOf anyBelow any breaksActivations breaksParts breaksSites breaksZeroRule weightsIn memoryIn pushed convolved sited pushedAll applies appliedSite site′ site convInput conv′ convOutput mixinInput mixin′ mixinOutput z gated head1x1′ contribution accumulated layer1x1′ signal column.after through stepped statesAfter columnsAfter allAre limit allows taken keepsFrom keepsRule partAt firstPart partCount weightsOfPart next rechannelled layered headed out memoryOfPart memoriesOf allMemories historiesJoined positionsJoined historiesFrom positionsFrom columnIn columnsIn blockOf refused6 refused7 beyond refused8 refused9 columnRefusal blockRefusal plannedRefusal statesFrom columnsFrom brought historiesPlayed positionsPlayed headPlayed arrayPlayed
+unfolding ofBits toBits add mul sub lt tab fill rows sumFrom ringLength inputsPerGroup outputsPerGroup kernelCount weightCount historyCount nextPlace placeBack push past seen memory.after startOf stepsBack channelOf weightIndex tapFrom tapsFrom output modulated modulationOf filmed relu leaky sigmoid activated inputRows blend joined arrayLimits layerLimits breaksRange mid unless0 siteGroups rechannelOf headRechannelOf convOf mixinOf layer1x1Of head1x1Of siteWidth siteOf slotsOf partOf eachLayer partsTo partsOf unevenOf arrayOf modeOf activationOf sitesOf layerOf refused1 breaksLayer refused2 refused3 headWidth unmatchedOf refused4 refused5 refusalOf weightsOf historiesOf positionsOf total placeOf pastOf placeAt largest widestOf sumBelow depthOf sizesOf anyBelow any breaksActivations breaksParts breaksSites breaksZeroRule weightsIn memoryIn pushed convolved sited pushedAll applies appliedSite site′ site convInput conv′ convOutput mixinInput mixin′ mixinOutput z gated head1x1′ contribution accumulated layer1x1′ signal column.after through stepped statesAfter columnsAfter allAre limit allows taken keepsFrom keepsRule partAt firstPart partCount weightsOfPart next rechannelled layered headed out memoryOfPart memoriesOf allMemories historiesJoined positionsJoined historiesFrom positionsFrom columnIn columnsIn blockOf refused6 refused7 beyond refused8 refused9 columnRefusal blockRefusal plannedRefusal statesFrom columnsFrom brought historiesPlayed positionsPlayed headPlayed arrayPlayed
 histories = refl
 
 positions : positionsPlayed caseA 4 ≡ 0 ∷ 0 ∷ 0 ∷ 0 ∷ 0 ∷ []
-unfolding ofBits toBits add mul sub lt tab fill rows sumFrom ringLength inputsPerGroup outputsPerGroup kernelCount weightCount historyCount nextPlace placeBack push past seen memory.after startOf stepsBack channelOf weightIndex tapFrom tapsFrom output modulated modulationOf filmed relu leaky sigmoid activated inputRows blend joined arrayLimits layerLimits breaksRange widened mid unless0 siteGroups rechannelOf headRechannelOf convOf mixinOf layer1x1Of head1x1Of siteWidth siteOf slotsOf partOf eachLayer partsTo partsOf unevenOf arrayOf modeOf activationOf sitesOf layerOf refused1 breaksLayer refused2 refused3 headWidth unmatchedOf refused4 refused5 refusalOf weightsOf historiesOf positionsOf total placeOf pastOf placeAt largest widestOf sumBelow depthOf sizesOf anyBelow any breaksActivations breaksParts breaksSites breaksZeroRule weightsIn memoryIn pushed convolved sited pushedAll applies appliedSite site′ site convInput conv′ convOutput mixinInput mixin′ mixinOutput z gated head1x1′ contribution accumulated layer1x1′ signal column.after through stepped statesAfter columnsAfter allAre limit allows taken keepsFrom keepsRule partAt firstPart partCount weightsOfPart next rechannelled layered headed out memoryOfPart memoriesOf allMemories historiesJoined positionsJoined historiesFrom positionsFrom columnIn columnsIn blockOf refused6 refused7 beyond refused8 refused9 columnRefusal blockRefusal plannedRefusal statesFrom columnsFrom brought historiesPlayed positionsPlayed headPlayed arrayPlayed
+unfolding ofBits toBits add mul sub lt tab fill rows sumFrom ringLength inputsPerGroup outputsPerGroup kernelCount weightCount historyCount nextPlace placeBack push past seen memory.after startOf stepsBack channelOf weightIndex tapFrom tapsFrom output modulated modulationOf filmed relu leaky sigmoid activated inputRows blend joined arrayLimits layerLimits breaksRange mid unless0 siteGroups rechannelOf headRechannelOf convOf mixinOf layer1x1Of head1x1Of siteWidth siteOf slotsOf partOf eachLayer partsTo partsOf unevenOf arrayOf modeOf activationOf sitesOf layerOf refused1 breaksLayer refused2 refused3 headWidth unmatchedOf refused4 refused5 refusalOf weightsOf historiesOf positionsOf total placeOf pastOf placeAt largest widestOf sumBelow depthOf sizesOf anyBelow any breaksActivations breaksParts breaksSites breaksZeroRule weightsIn memoryIn pushed convolved sited pushedAll applies appliedSite site′ site convInput conv′ convOutput mixinInput mixin′ mixinOutput z gated head1x1′ contribution accumulated layer1x1′ signal column.after through stepped statesAfter columnsAfter allAre limit allows taken keepsFrom keepsRule partAt firstPart partCount weightsOfPart next rechannelled layered headed out memoryOfPart memoriesOf allMemories historiesJoined positionsJoined historiesFrom positionsFrom columnIn columnsIn blockOf refused6 refused7 beyond refused8 refused9 columnRefusal blockRefusal plannedRefusal statesFrom columnsFrom brought historiesPlayed positionsPlayed headPlayed arrayPlayed
 positions = refl

@@ -11,7 +11,8 @@ use Rattle.shape.specs.declared.Shape.{Shape}
 use Rattle.shape.specs.Counts.{InRange}
 use Rattle.gating.specs.declared.Mode.{Mode}
 use Rattle.gating.specs.declared.Mode.the-variants.{None, Gated, Blended}
-use Rattle.description.specs.Parts.{convOf, head1x1Of, headRechannelOf, layer1x1Of, mid, mixinOf, partOf, pointwise, rechannelOf, siteGroups, siteOf, siteWidth, slotsOf, unless0, widened}
+use Rattle.gating.specs.Joined.{inputRows}
+use Rattle.description.specs.Parts.{convOf, head1x1Of, headRechannelOf, layer1x1Of, mid, mixinOf, partOf, pointwise, rechannelOf, siteGroups, siteOf, siteWidth, slotsOf, unless0}
 use Rattle.description.specs.Ranges.{ArrayRanges, Between, Fits, LayerRanges}
 use Rattle.description.specs.ZeroRules.{bit}
 use Rattle.description.specs.declared.records.ArrayRecord.{ArrayRecord}
@@ -51,11 +52,11 @@ pointwise-range ins outs groups b i o g =
       groups-high = g .most;
     }
 
-widened-range : (m : Mode) (n : ℕ) → Between 1 32 n → Between 1 64 (widened m n)
-unfolding widened
-widened-range None n b = record { least = b .least; most = omega arith }
-widened-range Gated n b = record { least = omega arith; most = omega arith }
-widened-range Blended n b = record { least = omega arith; most = omega arith }
+mid-rows-range : (m : Mode) (n : ℕ) → Between 1 32 n → Between 1 64 (inputRows m n)
+unfolding inputRows
+mid-rows-range None n b = record { least = b .least; most = omega arith }
+mid-rows-range Gated n b = record { least = omega arith; most = omega arith }
+mid-rows-range Blended n b = record { least = omega arith; most = omega arith }
 
 -- 1, and 1 more where the bit is set
 pub one-or-two : (b : ℕ) → b < 2 → 1 + b ≡ cond (eqb b 1) 2 1
@@ -70,7 +71,7 @@ twice-range n false h = record { least = omega arith; most = omega arith }
 module _ {a : ArrayRecord} {r : LayerRecord} (fa : ArrayRanges a) (fr : LayerRanges r) where
   pub mid-range : Between 1 64 (mid r)
   unfolding mid
-  mid-range = widened-range (r .mode) (r .bottleneck) (fr .bottleneck)
+  mid-range = mid-rows-range (r .mode) (r .bottleneck) (fr .bottleneck)
 
   wide : {n : ℕ} → Between 1 32 n → Between 1 64 n
   wide b = record { least = b .least; most = omega arith }

@@ -5,8 +5,7 @@ use Prim.Native.Nat.{ℕ, zero, suc, _*_, _%_}
 use lib.Dec.{eqb}
 use lib.ListN.{getD}
 use Rattle.shape.specs.declared.Shape.{Shape}
-use Rattle.gating.specs.declared.Mode.{Mode}
-use Rattle.gating.specs.declared.Mode.the-variants.{None, Gated, Blended}
+use Rattle.gating.specs.Joined.{inputRows}
 use Rattle.description.specs.Numbers.{layerCount}
 use Rattle.description.specs.ZeroRules.{bit}
 use Rattle.description.specs.Records.{arrayOf, layerOf}
@@ -17,13 +16,8 @@ use Rattle.description.specs.declared.parts.Part.{Part}
 use Rattle.description.specs.declared.parts.Part.the-variants.{Absent, There}
 
 -- mid = bottleneck in mode None, else twice that
-unfoldable pub widened : Mode → ℕ → ℕ
-widened None n = n
-widened Gated n = 2 * n
-widened Blended n = 2 * n
-
 unfoldable pub mid : LayerRecord → ℕ
-mid r = widened (r .mode) (r .bottleneck)
+mid r = inputRows (r .mode) (r .bottleneck)
 
 -- a part that a 0 makes absent
 unfoldable pub unless0 : ℕ → Shape → Part

@@ -9,7 +9,6 @@ ghost use Rattle.description.specs.Ranges.{ArrayRanges, Fits, LayerRange
 use crate::records::ArrayRecord;
 use crate::records::LayerRecord;
 use crate::records::Sites;
-use gating::Mode;
 use shape::Shape;
 
 // A slot of the list of parts.
@@ -50,11 +49,7 @@ pub fn doubled(r: LayerRecord) -> usize
     ensures { λ n. ⌜ n ≡ mid r ⌝ }
 {
     let mode = r.mode;
-    match mode {
-        Mode::None => r.bottleneck,
-        Mode::Gated => 2 * r.bottleneck,
-        Mode::Blended => 2 * r.bottleneck,
-    }
+    mode.input_rows(r.bottleneck)
 }
 
 fn conv(a: ArrayRecord, r: LayerRecord) -> Part

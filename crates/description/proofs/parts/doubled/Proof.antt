@@ -1,45 +1,23 @@
--- `doubled` is mid, mode by mode. Assumes nothing.
+-- `doubled` is mid: what the mode makes of the bottleneck. Assumes nothing.
+use Rattle.description.specs.Parts.{mid}
+use mathlib.Core.Path.{_≡_, refl, sym, _∙_, ap}
+use Prim.Native.Nat.{ℕ, _+_, _*_, _-_, _/_, _%_, _≤_, _<_}
+use native.Mathlib.Omega.{arith}
+use lib.ListN.{length, set, take, drop, length-set}
+use lib.Ieee.{Float, nan, binary32, add, mul}
 use borrow.Author.Needs.{needs}
-use Rattle.description.specs.Parts.{mid, widened}
 use Rattle.description.proofs.parts.doubled.Statement.{statement}
 use Rattle.description.proofs.parts.doubled.Tie as tie
+use Rattle.description.proofs.parts.doubled.Reads as reads
+use Rattle.description.proofs.parts.doubled.Lts as lts
+use Rattle.gating.proofs.Mode.input_rows.Reads as input-rows-reads
 
-enum-told : tie.Need-enum-told
-enum-told c = search needs
-
-enum-told-2 : tie.Need-enum-told-2
-enum-told-2 c = search needs
-
-mul-result : tie.Need-mul-result
-mul-result c = search needs
-
-enum-told-3 : tie.Need-enum-told-3
-enum-told-3 c = search needs
-
-mul-result-2 : tie.Need-mul-result-2
-mul-result-2 c = search needs
+input-rows-requires : tie.Need-input-rows-requires
+input-rows-requires c κs = omega (arith, c .pre .bottleneck .most)
 
 returns : tie.Need-returns
-unfolding mid widened
-returns c = rw (c .enum-told .given .1)
-
-returns-2 : tie.Need-returns-2
-unfolding mid widened
-returns-2 c = rw (c .before .enum-told2 .given .1)
-
-returns-3 : tie.Need-returns-3
-unfolding mid widened
-returns-3 c = rw (c .before .enum-told3 .given .1)
+unfolding mid
+returns c = c .input-rows .ensures
 
 pub doubled-spec : {M : Type 1} → statement M
-doubled-spec =
-    tie.close
-    (tie.spec
-    enum-told
-    enum-told-2
-    mul-result
-    enum-told-3
-    mul-result-2
-    returns
-    returns-2
-    returns-3)
+doubled-spec = tie.close (tie.spec input-rows-requires returns)
