@@ -11,6 +11,7 @@ use lib.ListN.{getD, length, length-append, take, List·getD-append}
 use lib.Seq.{getD-append-seam, take-suc}
 use borrow.Author.Tests.{eq-eqb, eqb-true, ltb-false, not-false}
 use Rattle.shape.specs.declared.Shape.{Shape}
+use Rattle.shape.specs.Groups.{Divided}
 use Rattle.description.specs.Numbers.{headLength, layerCount, recordAt}
 use Rattle.description.specs.Tests.{anyBelow}
 use Rattle.description.specs.Limits.{arrayLimits, breaksRange}
@@ -104,21 +105,14 @@ passed false false true e f z = absurd (omega arith)
 passed false false false true f z = absurd (omega arith)
 passed false false false false true z = absurd (omega arith)
 
--- groups that leave no rest divide
-divides : (n g : ℕ) → eqb (n % g) 0 ≡ true → n ≡ g * (n / g)
-divides n g e = omega (arith, div-add-mod n g, eqb-true (n % g) 0 e)
-
-pub record Divided (sh : Shape) : Type 0 where
-  pub ins : sh .ins ≡ sh .groups * (sh .ins / sh .groups)
-  pub outs : sh .outs ≡ sh .groups * (sh .outs / sh .groups)
-
+-- groups of a part that is not uneven divide both sides
 pub even-divided : {p : Part} {sh : Shape} → unevenOf p ≡ false → p ≡ There sh → Divided sh
 unfolding unevenOf
 even-divided {p} {sh} e q =
     let h : unevenOf (There sh) ≡ false = subst (λ (p : Part). unevenOf p ≡ false) q e in
     record {
-      ins = divides (sh .ins) (sh .groups) (not-false (eqb (sh .ins % sh .groups) 0) (left-false (not (eqb (sh .ins % sh .groups) 0)) (not (eqb (sh .outs % sh .groups) 0)) h));
-      outs = divides (sh .outs) (sh .groups) (not-false (eqb (sh .outs % sh .groups) 0) (right-false (not (eqb (sh .ins % sh .groups) 0)) (not (eqb (sh .outs % sh .groups) 0)) h));
+      ins-whole = eqb-true (sh .ins % sh .groups) 0 (not-false (eqb (sh .ins % sh .groups) 0) (left-false (not (eqb (sh .ins % sh .groups) 0)) (not (eqb (sh .outs % sh .groups) 0)) h));
+      outs-whole = eqb-true (sh .outs % sh .groups) 0 (not-false (eqb (sh .outs % sh .groups) 0) (right-false (not (eqb (sh .ins % sh .groups) 0)) (not (eqb (sh .outs % sh .groups) 0)) h));
     }
 
 -- what stands in a list is no larger than its largest
