@@ -10,7 +10,7 @@ use Rattle.shape.specs.Counts.{ringLength, inputsPerGroup, outputsPerGroup, ker
 use Rattle.ring.specs.Place.{nextPlace, placeBack}
 use Rattle.ring.specs.Memory.{push, past, seen}
 use Rattle.ring.specs.Memory as memory
-use Rattle.conv.specs.Recurrence.{startOf, stepsBack, channelOf, weightIndex, tapFrom, tapsFrom, output}
+use Rattle.column.specs.Recurrence.{startOf, stepsBack, channelOf, weightIndex, tapFrom, tapsFrom, output}
 use Rattle.film.specs.Modulated.{modulated, modulationOf, filmed}
 use Rattle.activation.specs.Activated.{relu, leaky, sigmoid, activated}
 use Rattle.gating.specs.Joined.{inputRows, blend, joined}

@@ -15,7 +15,7 @@ use Rattle.ring.specs.Memory.{Memory, Sound, after}
 use Rattle.ring.proofs.Window.{after-sound}
 use Rattle.shape.specs.declared.Shape.{Shape}
 use Rattle.shape.specs.Counts.{ringLength, weightCount, historyCount}
-use Rattle.conv.specs.Recurrence.{output, remembered}
+use Rattle.column.specs.Recurrence.{output, remembered}
 use Rattle.conv.specs.Fits.{PartsFit, ConvFits}
 use Rattle.conv.specs.Does.{Convolved}
 use Rattle.description.specs.Sizes.{weightsOf}

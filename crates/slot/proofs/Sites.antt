@@ -12,7 +12,7 @@ use Rattle.lists.proofs.Regions.{free-self, free-then, fill-free, holds-free}
 use Rattle.ring.specs.Memory.{Memory, push, after}
 use Rattle.shape.specs.declared.Shape.{Shape}
 use Rattle.shape.specs.Counts.{ringLength}
-use Rattle.conv.specs.Recurrence.{output, remembered}
+use Rattle.column.specs.Recurrence.{output, remembered}
 use Rattle.film.specs.Modulated.{filmed}
 use Rattle.film.specs.Fits.{FilmFits}
 use Rattle.film.proofs.Agree.{filmed-holds}

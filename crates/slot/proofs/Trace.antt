@@ -12,7 +12,7 @@ use Rattle.ring.specs.Memory.{Memory, Sound}
 use Rattle.ring.proofs.Window.{after-sound}
 use Rattle.shape.specs.declared.Shape.{Shape}
 use Rattle.shape.specs.Counts.{ringLength, historyCount}
-use Rattle.conv.specs.Recurrence.{output, remembered}
+use Rattle.column.specs.Recurrence.{output, remembered}
 use Rattle.description.specs.Sizes.{historiesOf, positionsOf}
 use Rattle.description.specs.declared.parts.Part.{Part}
 use Rattle.description.specs.declared.parts.Part.the-variants.{Absent, There}

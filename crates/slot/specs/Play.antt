@@ -7,7 +7,7 @@ use Rattle.lists.specs.Region.{Apart, Holds, Free}
 use Rattle.shape.specs.declared.Shape.{Shape}
 use Rattle.shape.specs.Counts.{InRange, ringLength, weightCount, historyCount}
 use Rattle.shape.specs.Groups.{Divided}
-use Rattle.conv.specs.Recurrence.{output, remembered}
+use Rattle.column.specs.Recurrence.{output, remembered}
 use Rattle.description.specs.declared.parts.Part.the-variants.{There}
 use Rattle.description.specs.declared.places.Place.{Place}
 use Rattle.slot.specs.View.{weightsIn, memoryIn}

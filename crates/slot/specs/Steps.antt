@@ -5,7 +5,7 @@ use Prim.Native.Nat.{ℕ, zero, suc, _+_}
 use lib.Ieee.{Float, binary32, ofBits}
 use Rattle.ring.specs.Memory.{Memory, push}
 use Rattle.shape.specs.Counts.{ringLength}
-use Rattle.conv.specs.Recurrence.{output}
+use Rattle.column.specs.Recurrence.{output}
 use Rattle.film.specs.Modulated.{modulated, modulationOf}
 use Rattle.description.specs.declared.parts.Part.{Part}
 use Rattle.description.specs.declared.parts.Part.the-variants.{Absent, There}
