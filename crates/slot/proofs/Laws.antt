@@ -16,7 +16,7 @@ use Rattle.ring.proofs.Window.{after-sound}
 use Rattle.shape.specs.declared.Shape.{Shape}
 use Rattle.shape.specs.Counts.{ringLength, weightCount, historyCount}
 use Rattle.column.specs.Recurrence.{output, remembered}
-use Rattle.conv.specs.Fits.{PartsFit, ConvFits}
+use Rattle.conv.specs.Fits.{ConvFits}
 use Rattle.conv.specs.Does.{Convolved}
 use Rattle.description.specs.Sizes.{weightsOf}
 use Rattle.description.specs.declared.parts.Part.the-variants.{There}
