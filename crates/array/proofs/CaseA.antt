@@ -50,22 +50,11 @@ caseA = record {
   scratch = f 0x00000000 ∷ f 0x00000000 ∷ f 0x00000000 ∷ f 0x00000000 ∷ f 0x00000000 ∷ f 0x00000000 ∷ f 0x00000000 ∷ f 0x00000000 ∷ f 0x00000000 ∷ f 0x00000000 ∷ f 0x00000000 ∷ f 0x00000000 ∷ f 0x00000000 ∷ f 0x00000000 ∷ f 0x00000000 ∷ f 0x00000000 ∷ f 0x00000000 ∷ f 0x00000000 ∷ f 0x00000000 ∷ f 0x00000000 ∷ f 0x00000000 ∷ f 0x00000000 ∷ f 0x00000000 ∷ f 0x00000000 ∷ f 0x00000000 ∷ f 0x00000000 ∷ f 0x00000000 ∷ f 0x00000000 ∷ f 0x00000000 ∷ f 0x00000000 ∷ f 0x00000000 ∷ f 0x00000000 ∷ f 0x00000000 ∷ f 0x00000000 ∷ f 0x00000000 ∷ f 0x00000000 ∷ f 0x00000000 ∷ f 0x00000000 ∷ f 0x00000000 ∷ f 0x00000000 ∷ f 0x00000000 ∷ f 0x00000000 ∷ f 0x00000000 ∷ f 0x00000000 ∷ f 0x00000000 ∷ f 0x00000000 ∷ f 0x00000000 ∷ f 0x00000000 ∷ f 0x00000000 ∷ f 0x00000000 ∷ f 0x00000000 ∷ f 0x00000000 ∷ f 0x00000000 ∷ f 0x00000000 ∷ f 0x00000000 ∷ f 0x00000000 ∷ f 0x00000000 ∷ f 0x00000000 ∷ f 0x00000000 ∷ f 0x00000000 ∷ f 0x00000000 ∷ f 0x00000000 ∷ f 0x00000000 ∷ f 0x00000000 ∷ [];
 }
 
-refusal : blockRefusal caseA 4 ≡ 0
+-- no refusal; head outputs, array outputs, histories and positions as document 01 has them
+pub case-a : (blockRefusal caseA 4 ≡ 0)
+    × (map (toBits binary32) (headPlayed caseA 4) ≡ 0x4040_0000 ∷ 0x40c0_0000 ∷ 0x4140_0000 ∷ 0 ∷ [])
+    × (map (toBits binary32) (arrayPlayed caseA 4) ≡ 0x4020_0000 ∷ 0x4108_0000 ∷ 0x4168_0000 ∷ 0xc0f0_0000 ∷ [])
+    × (map (toBits binary32) (historiesPlayed caseA 4) ≡ 0xc080_0000 ∷ 0xc100_0000 ∷ 0x4080_0000 ∷ 0x40c0_0000 ∷ 0 ∷ 0 ∷ 0 ∷ [])
+    × (positionsPlayed caseA 4 ≡ 0 ∷ 0 ∷ 0 ∷ 0 ∷ 0 ∷ [])
 unfolding ofBits toBits add mul sub lt tab fill rows sumFrom ringLength inputsPerGroup outputsPerGroup kernelCount weightCount historyCount nextPlace placeBack push past seen memory.after startOf stepsBack channelOf weightIndex tapFrom tapsFrom output modulated modulationOf filmed relu leaky sigmoid activated inputRows blend joined arrayLimits layerLimits breaksRange mid unless0 siteGroups rechannelOf headRechannelOf convOf mixinOf layer1x1Of head1x1Of siteWidth siteOf slotsOf partOf eachLayer partsTo partsOf unevenOf arrayOf modeOf activationOf sitesOf layerOf refused1 breaksLayer refused2 refused3 headWidth unmatchedOf refused4 refused5 refusalOf weightsOf historiesOf positionsOf total placeOf pastOf placeAt largest widestOf sumBelow depthOf sizesOf anyBelow any breaksActivations breaksParts breaksSites breaksZeroRule weightsIn memoryIn pushed convolved sited pushedAll applies appliedSite site′ site convInput conv′ convOutput mixinInput mixin′ mixinOutput z gated head1x1′ contribution accumulated layer1x1′ signal column.after through stepped statesAfter columnsAfter allAre limit allows taken keepsFrom keepsRule partAt firstPart partCount weightsOfPart next rechannelled layered headed out memoryOfPart memoriesOf allMemories historiesJoined positionsJoined historiesFrom positionsFrom columnIn columnsIn blockOf refused6 refused7 beyond refused8 refused9 columnRefusal blockRefusal plannedRefusal statesFrom columnsFrom brought historiesPlayed positionsPlayed headPlayed arrayPlayed
-refusal = refl
-
-heads : map (toBits binary32) (headPlayed caseA 4) ≡ 0x40400000 ∷ 0x40c00000 ∷ 0x41400000 ∷ 0 ∷ []
-unfolding ofBits toBits add mul sub lt tab fill rows sumFrom ringLength inputsPerGroup outputsPerGroup kernelCount weightCount historyCount nextPlace placeBack push past seen memory.after startOf stepsBack channelOf weightIndex tapFrom tapsFrom output modulated modulationOf filmed relu leaky sigmoid activated inputRows blend joined arrayLimits layerLimits breaksRange mid unless0 siteGroups rechannelOf headRechannelOf convOf mixinOf layer1x1Of head1x1Of siteWidth siteOf slotsOf partOf eachLayer partsTo partsOf unevenOf arrayOf modeOf activationOf sitesOf layerOf refused1 breaksLayer refused2 refused3 headWidth unmatchedOf refused4 refused5 refusalOf weightsOf historiesOf positionsOf total placeOf pastOf placeAt largest widestOf sumBelow depthOf sizesOf anyBelow any breaksActivations breaksParts breaksSites breaksZeroRule weightsIn memoryIn pushed convolved sited pushedAll applies appliedSite site′ site convInput conv′ convOutput mixinInput mixin′ mixinOutput z gated head1x1′ contribution accumulated layer1x1′ signal column.after through stepped statesAfter columnsAfter allAre limit allows taken keepsFrom keepsRule partAt firstPart partCount weightsOfPart next rechannelled layered headed out memoryOfPart memoriesOf allMemories historiesJoined positionsJoined historiesFrom positionsFrom columnIn columnsIn blockOf refused6 refused7 beyond refused8 refused9 columnRefusal blockRefusal plannedRefusal statesFrom columnsFrom brought historiesPlayed positionsPlayed headPlayed arrayPlayed
-heads = refl
-
-arrays : map (toBits binary32) (arrayPlayed caseA 4) ≡ 0x40200000 ∷ 0x41080000 ∷ 0x41680000 ∷ 0xc0f00000 ∷ []
-unfolding ofBits toBits add mul sub lt tab fill rows sumFrom ringLength inputsPerGroup outputsPerGroup kernelCount weightCount historyCount nextPlace placeBack push past seen memory.after startOf stepsBack channelOf weightIndex tapFrom tapsFrom output modulated modulationOf filmed relu leaky sigmoid activated inputRows blend joined arrayLimits layerLimits breaksRange mid unless0 siteGroups rechannelOf headRechannelOf convOf mixinOf layer1x1Of head1x1Of siteWidth siteOf slotsOf partOf eachLayer partsTo partsOf unevenOf arrayOf modeOf activationOf sitesOf layerOf refused1 breaksLayer refused2 refused3 headWidth unmatchedOf refused4 refused5 refusalOf weightsOf historiesOf positionsOf total placeOf pastOf placeAt largest widestOf sumBelow depthOf sizesOf anyBelow any breaksActivations breaksParts breaksSites breaksZeroRule weightsIn memoryIn pushed convolved sited pushedAll applies appliedSite site′ site convInput conv′ convOutput mixinInput mixin′ mixinOutput z gated head1x1′ contribution accumulated layer1x1′ signal column.after through stepped statesAfter columnsAfter allAre limit allows taken keepsFrom keepsRule partAt firstPart partCount weightsOfPart next rechannelled layered headed out memoryOfPart memoriesOf allMemories historiesJoined positionsJoined historiesFrom positionsFrom columnIn columnsIn blockOf refused6 refused7 beyond refused8 refused9 columnRefusal blockRefusal plannedRefusal statesFrom columnsFrom brought historiesPlayed positionsPlayed headPlayed arrayPlayed
-arrays = refl
-
-histories : map (toBits binary32) (historiesPlayed caseA 4) ≡ 0xc0800000 ∷ 0xc1000000 ∷ 0x40800000 ∷ 0x40c00000 ∷ 0x00000000 ∷ 0x00000000 ∷ 0x00000000 ∷ []
-unfolding ofBits toBits add mul sub lt tab fill rows sumFrom ringLength inputsPerGroup outputsPerGroup kernelCount weightCount historyCount nextPlace placeBack push past seen memory.after startOf stepsBack channelOf weightIndex tapFrom tapsFrom output modulated modulationOf filmed relu leaky sigmoid activated inputRows blend joined arrayLimits layerLimits breaksRange mid unless0 siteGroups rechannelOf headRechannelOf convOf mixinOf layer1x1Of head1x1Of siteWidth siteOf slotsOf partOf eachLayer partsTo partsOf unevenOf arrayOf modeOf activationOf sitesOf layerOf refused1 breaksLayer refused2 refused3 headWidth unmatchedOf refused4 refused5 refusalOf weightsOf historiesOf positionsOf total placeOf pastOf placeAt largest widestOf sumBelow depthOf sizesOf anyBelow any breaksActivations breaksParts breaksSites breaksZeroRule weightsIn memoryIn pushed convolved sited pushedAll applies appliedSite site′ site convInput conv′ convOutput mixinInput mixin′ mixinOutput z gated head1x1′ contribution accumulated layer1x1′ signal column.after through stepped statesAfter columnsAfter allAre limit allows taken keepsFrom keepsRule partAt firstPart partCount weightsOfPart next rechannelled layered headed out memoryOfPart memoriesOf allMemories historiesJoined positionsJoined historiesFrom positionsFrom columnIn columnsIn blockOf refused6 refused7 beyond refused8 refused9 columnRefusal blockRefusal plannedRefusal statesFrom columnsFrom brought historiesPlayed positionsPlayed headPlayed arrayPlayed
-histories = refl
-
-positions : positionsPlayed caseA 4 ≡ 0 ∷ 0 ∷ 0 ∷ 0 ∷ 0 ∷ []
-unfolding ofBits toBits add mul sub lt tab fill rows sumFrom ringLength inputsPerGroup outputsPerGroup kernelCount weightCount historyCount nextPlace placeBack push past seen memory.after startOf stepsBack channelOf weightIndex tapFrom tapsFrom output modulated modulationOf filmed relu leaky sigmoid activated inputRows blend joined arrayLimits layerLimits breaksRange mid unless0 siteGroups rechannelOf headRechannelOf convOf mixinOf layer1x1Of head1x1Of siteWidth siteOf slotsOf partOf eachLayer partsTo partsOf unevenOf arrayOf modeOf activationOf sitesOf layerOf refused1 breaksLayer refused2 refused3 headWidth unmatchedOf refused4 refused5 refusalOf weightsOf historiesOf positionsOf total placeOf pastOf placeAt largest widestOf sumBelow depthOf sizesOf anyBelow any breaksActivations breaksParts breaksSites breaksZeroRule weightsIn memoryIn pushed convolved sited pushedAll applies appliedSite site′ site convInput conv′ convOutput mixinInput mixin′ mixinOutput z gated head1x1′ contribution accumulated layer1x1′ signal column.after through stepped statesAfter columnsAfter allAre limit allows taken keepsFrom keepsRule partAt firstPart partCount weightsOfPart next rechannelled layered headed out memoryOfPart memoriesOf allMemories historiesJoined positionsJoined historiesFrom positionsFrom columnIn columnsIn blockOf refused6 refused7 beyond refused8 refused9 columnRefusal blockRefusal plannedRefusal statesFrom columnsFrom brought historiesPlayed positionsPlayed headPlayed arrayPlayed
-positions = refl
+case-a = (refl, refl, refl, refl, refl)

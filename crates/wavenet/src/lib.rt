@@ -10,7 +10,8 @@ ghost use Rattle.description.specs.Refusals.{refusalOf};
 ghost use Rattle.description.specs.Sizes.{sizesOf};
 ghost use Rattle.reset.specs.Resets.{Resets};
 ghost use Rattle.wavenet.specs.Small.{Small};
-use description::answers::{Checked, Sizes};
+use description::answers::Checked;
+use description::answers::Sizes;
 
 // e^x, by E.
 #[no_mangle]
@@ -59,7 +60,11 @@ pub extern "C" fn wavenet_sizes(description: &[u32], sizes: &mut [u32; 5]) -> u3
 
 // 0 and the memory as it is before the first column, or the refusal 1 to 5 or 7; refused, both buffers stay as they were.
 #[no_mangle]
-pub extern "C" fn wavenet_reset(description: &[u32], histories: &mut [f32], positions: &mut [u32]) -> u32
+pub extern "C" fn wavenet_reset(
+    description: &[u32],
+    histories: &mut [f32],
+    positions: &mut [u32],
+) -> u32
     ensures { λ r. ⌜ Resets (now (description .entry)) (now (histories .entry)) (now (positions .entry)) r (now (histories .exit)) (now (positions .exit)) ⌝ }
 {
     reset::reset(description, histories, positions)
