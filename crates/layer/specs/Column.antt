@@ -14,7 +14,7 @@ use Rattle.description.specs.declared.records.ArrayRecord.{ArrayRecord}
 use Rattle.description.specs.declared.records.LayerRecord.{LayerRecord}
 use Rattle.description.specs.declared.parts.Part.{Part}
 use Rattle.description.specs.declared.parts.Part.the-variants.{Absent, There}
-use Rattle.slot.specs.Steps.{pushed, convolved, modulated}
+use Rattle.slot.specs.Steps.{pushed, convolved, sited}
 
 abbrev pub isThere : Part → Bool
 isThere Absent = false
@@ -43,7 +43,7 @@ module _ (a : ArrayRecord) (r : LayerRecord) where
 
     -- a column past site i
     unfoldable pub site : ℕ → (ℕ → Float) → ℕ → Float
-    site i v = modulated (appliedSite i) (bit (r .«shift_bits») i) (siteWidth a r i) (weights (4 + i)) (site′ i) v
+    site i v = sited (appliedSite i) (bit (r .«shift_bits») i) (siteWidth a r i) (weights (4 + i)) (site′ i) v
 
     -- conv input = site 0 or the input; conv; site 1
     unfoldable pub convInput : ℕ → Float
