@@ -79,7 +79,18 @@ pub fn site_in(
     let Part::There(sh) = part else {
         return;
     };
-    play(work, histories, positions, weights, condition, s, rows, sh, at, m);
+    play(
+        work,
+        histories,
+        positions,
+        weights,
+        condition,
+        s,
+        rows,
+        sh,
+        at,
+        m,
+    );
     film::process_in_place(work, to, s, w * m, shifted);
 }
 
@@ -111,7 +122,18 @@ pub fn site_to(
     let Part::There(sh) = part else {
         return from;
     };
-    play(work, histories, positions, weights, condition, s, rows, sh, at, m);
+    play(
+        work,
+        histories,
+        positions,
+        weights,
+        condition,
+        s,
+        rows,
+        sh,
+        at,
+        m,
+    );
     film::process(work, to, from, s, w * m, shifted);
     to
 }
