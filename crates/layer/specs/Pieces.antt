@@ -1,6 +1,6 @@
 -- The pieces of a layer over a block of columns: what each asks, and what it does. A layer is these pieces, one after the other.
 use mathlib.Core.Path.{_≡_}
-use mathlib.Core.Bool.{cond}
+use mathlib.Core.Bool.{cond, true}
 use mathlib.Core.List.{List}
 use mathlib.Core.Logic.{_⊎_}
 use Prim.Native.Nat.{ℕ, suc, _+_, _*_, _≤_, _<_, min, max}
@@ -11,7 +11,7 @@ use Rattle.lists.specs.Region.{Apart, Holds, Free}
 use Rattle.ring.specs.Memory.{Memory}
 use Rattle.shape.specs.declared.Shape.{Shape}
 use Rattle.shape.specs.Counts.{ringLength}
-use Rattle.description.specs.Parts.{mid, slotsOf, partOf, siteWidth}
+use Rattle.description.specs.Parts.{mid, layer1x1Of, head1x1Of, slotsOf, partOf, siteWidth}
 use Rattle.description.specs.Sizes.{historiesOf, positionsOf, total}
 use Rattle.description.specs.declared.records.ArrayRecord.{ArrayRecord}
 use Rattle.description.specs.declared.records.LayerRecord.{LayerRecord}
@@ -20,7 +20,7 @@ use Rattle.description.specs.declared.parts.Part.the-variants.{Absent, There}
 use Rattle.description.specs.declared.places.Place.{Place}
 use Rattle.slot.specs.Steps.{pushed, convolved}
 use Rattle.slot.specs.Site.{resultAt}
-use Rattle.layer.specs.Column.{appliedSite, site, convOutput, mixinOutput, gated, accumulated, signal}
+use Rattle.layer.specs.Column.{isThere, appliedSite, site, convOutput, mixinOutput, gated, accumulated, signal}
 use Rattle.layer.specs.Layered.{slotPlace, slotMemory, slotWeights, memoriesAt}
 use Rattle.layer.specs.Slots.{turnOf}
 
@@ -38,6 +38,12 @@ pub record Room (size to : ℕ) : Type 0 where
   pub past : 4 * size ≤ to
   pub end : to + size ≤ 16 * size
   pub beside : Apart to size (9 * size) (3 * size)
+
+-- where site i is played, the convolution before it is there
+pub record Behind (a : ArrayRecord) (r : LayerRecord) (i : ℕ) : Type 0 where
+  pub site-in : i < 8
+  pub layer1x1-there : i ≡ 6 → isThere (layer1x1Of a r) ≡ true
+  pub head1x1-there : i ≡ 7 → isThere (head1x1Of a r) ≡ true
 
 module _ (a : ArrayRecord) (r : LayerRecord) (start : Place) (weights : List Float) (size m : ℕ) where
   -- the input x and the condition c are in their regions; the slots of the turns before n remember m columns more than s, the others remember s

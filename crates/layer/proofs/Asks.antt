@@ -1,6 +1,7 @@
--- One FiLM site, and one convolution, within a layer: what `slot` shows of them, in terms of the trace. Assumes nothing.
+-- What a FiLM site and a convolution ask of a layer's buffers follows from what the layer asks. Assumes nothing.
 use mathlib.Core.Path.{_≡_, refl, sym, _∙_, ap, subst}
-use mathlib.Core.Bool.{Bool, true, false, cond}
+use mathlib.Core.Bool.{Bool, true, false, cond, not, _&&_, true≢false, false≢true}
+use borrow.Author.Tests.{eqb-true, eq-eqb}
 use mathlib.Core.List.{List, [], _∷_}
 use mathlib.Core.Logic.{_⊎_, inl, inr, ⊎-elim}
 use Prim.Native.Nat.{ℕ, zero, suc, _+_, _-_, _*_, _≤_, _<_, min, max}
@@ -28,20 +29,20 @@ use Rattle.slot.specs.Steps.{pushed, convolved, sited}
 use Rattle.slot.specs.Play.{PlayFits, Played}
 use Rattle.slot.specs.Site.{SiteThere, SiteFits, Sited, resultAt}
 use Rattle.slot.proofs.Trace.{play-trace, site-trace, place-stays, site-place-stays}
-use Rattle.layer.specs.Column.{applies, appliedSite, site, site′, after, conv′, mixin′, layer1x1′, head1x1′}
+use Rattle.layer.specs.Column.{isBlended, isThere, applies, appliedSite, site, site′, after, conv′, mixin′, layer1x1′, head1x1′}
 use Rattle.layer.specs.Layered.{slotPlace, slotMemory, slotWeights, memoriesAt, LayerFits}
 use Rattle.layer.specs.Slots.{turnOf}
-use Rattle.layer.specs.Pieces.{Room, insOf, outsOf, UnderWay, Leaves, SitePast, ConvPast}
+use Rattle.layer.specs.Pieces.{Behind, Room, insOf, outsOf, UnderWay, Leaves, SitePast, ConvPast}
 use Rattle.layer.proofs.Places.{slot-within}
 use Rattle.layer.proofs.Steps.{histories-in, positions-in, leaves, advance, unplayed}
 
 -- ---- sites as they are applied
 module _ (a : ArrayRecord) (r : LayerRecord) where
-  site-part : (i : ℕ) → i < 8 → siteOf a r i ≡ partOf a r (4 + i)
+  pub site-part : (i : ℕ) → i < 8 → siteOf a r i ≡ partOf a r (4 + i)
   site-part i h = let e : 4 + i - 4 ≡ i = omega arith in sym (ap (siteOf a r) e) ∙ slot-site a r (4 + i) (omega arith) (omega arith)
 
   -- a site is applied as it is, or not at all
-  data Applied (i : ℕ) : Type 0 where
+  pub data Applied (i : ℕ) : Type 0 where
     as-is : appliedSite a r i ≡ partOf a r (4 + i) → Applied i
     not-applied : appliedSite a r i ≡ Absent → Applied i
 
@@ -50,10 +51,46 @@ module _ (a : ArrayRecord) (r : LayerRecord) where
   applied-by i h true e = as-is (rw e (site-part i h))
   applied-by i h false e = not-applied (rw e)
 
-  applied : (i : ℕ) → i < 8 → Applied i
+  pub applied : (i : ℕ) → i < 8 → Applied i
   applied i h = applied-by i h (applies a r i) refl
 
-not-there : {A : Type 0} {sh : Shape} → Absent ≡ There sh → A
+-- site 6 in a mode other than Blended, and any other case
+both : (t b : Bool) → (t && not b) ≡ true → (t ≡ true) × (b ≡ false)
+both true true e = absurd (false≢true e)
+both true false e = (refl, refl)
+both false b e = absurd (false≢true e)
+
+not-both : (t b : Bool) → (t && not b) ≡ false → t ≡ true → b ≡ true
+not-both true true e q = refl
+not-both true false e q = absurd (true≢false e)
+not-both false b e q = absurd (false≢true q)
+
+module _ (a : ArrayRecord) (r : LayerRecord) (i : ℕ) (b : Bool) (mode : b ≡ isBlended (r .mode)) where
+  pub left-out : (eqb i 6 && not b) ≡ true → Absent ≡ appliedSite a r i
+  unfolding appliedSite applies
+  left-out e =
+      let q = both (eqb i 6) b e in
+      let six : i ≡ 6 = eqb-true i 6 (q .0) in
+      let plain : isBlended (r .mode) ≡ false = sym mode ∙ q .1 in
+      rw (six, plain)
+
+  played-by : (i : ℕ) → Behind a r i → (i ≡ 6 → isBlended (r .mode) ≡ true) → applies a r i ≡ true
+  unfolding applies
+  played-by zero h e = refl
+  played-by (suc zero) h e = refl
+  played-by (suc (suc zero)) h e = refl
+  played-by (suc (suc (suc zero))) h e = refl
+  played-by (suc (suc (suc (suc zero)))) h e = refl
+  played-by (suc (suc (suc (suc (suc zero))))) h e = refl
+  played-by (suc (suc (suc (suc (suc (suc zero)))))) h e = rw (e refl, h .layer1x1-there refl)
+  played-by (suc (suc (suc (suc (suc (suc (suc zero))))))) h e = rw (h .head1x1-there refl)
+  played-by (suc (suc (suc (suc (suc (suc (suc (suc i)))))))) h e = absurd (omega (arith, h .site-in))
+
+  pub played : Behind a r i → (eqb i 6 && not b) ≡ false → partOf a r (4 + i) ≡ appliedSite a r i
+  unfolding appliedSite
+  played h e = rw (played-by i h (λ six. sym mode ∙ not-both (eqb i 6) b e (eq-eqb i 6 six))) (sym (site-part a r i (h .site-in)))
+
+pub not-there : {A : Type 0} {sh : Shape} → Absent ≡ There sh → A
 not-there e = let z : _≡_ {A = ℕ} 0 1 = cc in absurd (omega arith)
 
 -- a part that is there, of one that a 0 makes absent
@@ -87,12 +124,12 @@ part-sides n m size s h k = by (eqb n 0)
     by true = (omega arith, omega arith)
     by false = (h, k)
 
-still : {A : Type 0} (R : ℕ → A) → ((t : ℕ) → R (suc t) ≡ R t) → (t : ℕ) → R t ≡ R 0
+pub still : {A : Type 0} (R : ℕ → A) → ((t : ℕ) → R (suc t) ≡ R t) → (t : ℕ) → R t ≡ R 0
 still R step zero = refl
 still R step (suc t) = step t ∙ still R step t
 
 -- what site i remembers after a column
-site-step : (a : ArrayRecord) (r : LayerRecord) (start : Place) (weights : List Float) (x c : ℕ → ℕ → Float) (s : ℕ → Memory) (t i : ℕ) → i < 8
+pub site-step : (a : ArrayRecord) (r : LayerRecord) (start : Place) (weights : List Float) (x c : ℕ → ℕ → Float) (s : ℕ → Memory) (t i : ℕ) → i < 8
     → memoriesAt a r start weights x c s (suc t) (4 + i) ≡ site′ a r (slotWeights a r start weights) (memoriesAt a r start weights x c s t) (x t) (c t) i
 unfolding memoriesAt after
 site-step a r start weights x c s t zero h = refl
@@ -112,7 +149,7 @@ module _ {a : ArrayRecord} {r : LayerRecord} {start : Place} {size m nwork : ℕ
   last-width true = fits .channels-in
   last-width false = fits .head1x1-in
 
-  width-in : (i : ℕ) → i < 8 → siteWidth a r i * m ≤ size
+  pub width-in : (i : ℕ) → i < 8 → siteWidth a r i * m ≤ size
   unfolding siteWidth
   width-in zero h = fits .channels-in
   width-in (suc zero) h = fits .mid-in
@@ -124,7 +161,7 @@ module _ {a : ArrayRecord} {r : LayerRecord} {start : Place} {size m nwork : ℕ
   width-in (suc (suc (suc (suc (suc (suc (suc zero))))))) h = last-width (eqb (r .«head1x1_width») 0)
   width-in (suc (suc (suc (suc (suc (suc (suc (suc i)))))))) h = absurd (omega arith)
 
-  sides-in : (k : ℕ) → k < 4 → (insOf (partOf a r k) * m ≤ size) × (outsOf (partOf a r k) * m ≤ size)
+  pub sides-in : (k : ℕ) → k < 4 → (insOf (partOf a r k) * m ≤ size) × (outsOf (partOf a r k) * m ≤ size)
   unfolding partOf slotsOf convOf mixinOf layer1x1Of head1x1Of insOf outsOf
   sides-in zero h = (fits .channels-in, fits .mid-in)
   sides-in (suc zero) h = (fits .condition-in, fits .mid-in)
@@ -138,7 +175,7 @@ module _ {a : ArrayRecord} {r : LayerRecord} {start : Place} {size m nwork : ℕ
 
   -- the convolution of slot j, from region x to region out
   module _ (j : ℕ) (hj : j < 12) (sh : Shape) (e : partOf a r j ≡ There sh) (x out : ℕ) where
-    play-fits : x + sh .ins * m ≤ nwork → out + sh .outs * m ≤ nwork → sh .ins * m ≤ size → Apart out (sh .outs * m) x (sh .ins * m)
+    pub play-fits : x + sh .ins * m ≤ nwork → out + sh .outs * m ≤ nwork → sh .ins * m ≤ size → Apart out (sh .outs * m) x (sh .ins * m)
         → Apart out (sh .outs * m) (11 * size) (sh .ins * m) → Apart (11 * size) (sh .ins * m) x (sh .ins * m)
         → PlayFits sh (slotPlace a r start j) (getD positions (slotPlace a r start j .positions) 0) m nwork (length histories) (length positions) (length weights) x out (11 * size)
     unfolding historiesOf positionsOf weightsOf
@@ -161,6 +198,17 @@ module _ {a : ArrayRecord} {r : LayerRecord} {start : Place} {size m nwork : ℕ
           out-rows = out-rows;
           rows-x = rows-x;
         }
+
+  -- what slot k asks, from a region to a later one
+  pub conv-fits : (k : ℕ) → k < 4 → (sh : Shape) → partOf a r k ≡ There sh → (from to : ℕ) → Room size to → from + size ≤ to → from + size ≤ 9 * size
+      → PlayFits sh (slotPlace a r start k) (getD positions (slotPlace a r start k .positions) 0) m nwork (length histories) (length positions) (length weights) from to (11 * size)
+  unfolding insOf outsOf
+  conv-fits k hk sh e from to room le le9 =
+      let n = sides-in k hk in
+      let ins : sh .ins * m ≤ size = rw (← ap insOf e) (n .0) in
+      let outs : sh .outs * m ≤ size = rw (← ap outsOf e) (n .1) in
+      play-fits k (omega arith) sh e from to (omega (arith, ins, fits .work-in)) (omega (arith, outs, room .end, fits .work-in)) ins
+      (omega (arith, ins, outs, le)) (omega (arith, ins, outs, room .beside)) (omega (arith, ins, le9))
 
   -- what a site asks, over a region beside those that it uses up
   module _ (i : ℕ) (hi : i < 8) (to : ℕ) (inside : to + size ≤ 16 * size) (beside : Apart to size (9 * size) (3 * size)) where
