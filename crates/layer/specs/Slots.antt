@@ -6,7 +6,7 @@ use lib.ListN.{getD}
 use Rattle.description.specs.declared.records.ArrayRecord.{ArrayRecord}
 use Rattle.description.specs.declared.records.LayerRecord.{LayerRecord}
 use Rattle.description.specs.declared.places.Place.{Place}
-use Rattle.layer.specs.declared.Slots.{Slots}
+use Rattle.layer.specs.declared.slots.Slots.{Slots}
 use Rattle.layer.specs.Layered.{slotPlace}
 
 -- place k of twelve, and the end

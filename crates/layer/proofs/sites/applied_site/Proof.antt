@@ -5,12 +5,12 @@ use native.Mathlib.Omega.{arith}
 use lib.ListN.{length, set, take, drop, length-set}
 use lib.Ieee.{Float, nan, binary32, add, mul}
 use borrow.Author.Needs.{needs}
-use Rattle.layer.proofs.applied_site.Statement.{statement}
-use Rattle.layer.proofs.applied_site.Tie as tie
-use Rattle.layer.proofs.applied_site.Reads as reads
-use Rattle.layer.proofs.applied_site.Lts as lts
+use Rattle.layer.proofs.sites.applied_site.Statement.{statement}
+use Rattle.layer.proofs.sites.applied_site.Tie as tie
+use Rattle.layer.proofs.sites.applied_site.Reads as reads
+use Rattle.layer.proofs.sites.applied_site.Lts as lts
 use Rattle.description.proofs.parts.slot.Reads as slot-reads
-use Rattle.layer.proofs.blended.Reads as blended-reads
+use Rattle.layer.proofs.sites.blended.Reads as blended-reads
 
 -- src/lib.rt:97:9
 blended-requires : tie.Need-blended-requires

@@ -6,12 +6,12 @@ use native.Mathlib.Omega.{arith}
 use lib.ListN.{length, set, take, drop, length-set}
 use lib.Ieee.{Float, nan, binary32, add, mul}
 use borrow.Author.Needs.{needs}
-use Rattle.layer.proofs.convolve.Statement.{statement}
-use Rattle.layer.proofs.convolve.Tie as tie
-use Rattle.layer.proofs.convolve.Reads as reads
-use Rattle.layer.proofs.convolve.Lts as lts
+use Rattle.layer.proofs.sites.convolve.Statement.{statement}
+use Rattle.layer.proofs.sites.convolve.Tie as tie
+use Rattle.layer.proofs.sites.convolve.Reads as reads
+use Rattle.layer.proofs.sites.convolve.Lts as lts
 use Rattle.description.proofs.parts.slot.Reads as slot-reads
-use Rattle.layer.proofs.Slots.place.Reads as place-reads
+use Rattle.layer.proofs.slots.Slots.place.Reads as place-reads
 use Rattle.slot.proofs.play.Reads as play-reads
 
 -- src/lib.rt:125:27

@@ -6,10 +6,10 @@ use native.Mathlib.Omega.{arith}
 use lib.ListN.{length, set, take, drop, length-set}
 use lib.Ieee.{Float, nan, binary32, add, mul}
 use borrow.Author.Needs.{needs}
-use Rattle.layer.proofs.Slots.place.Statement.{statement}
-use Rattle.layer.proofs.Slots.place.Tie as tie
-use Rattle.layer.proofs.Slots.place.Reads as reads
-use Rattle.layer.proofs.Slots.place.Lts as lts
+use Rattle.layer.proofs.slots.Slots.place.Statement.{statement}
+use Rattle.layer.proofs.slots.Slots.place.Tie as tie
+use Rattle.layer.proofs.slots.Slots.place.Reads as reads
+use Rattle.layer.proofs.slots.Slots.place.Lts as lts
 
 -- src/lib.rt:37:5
 returns : tie.Need-returns

@@ -6,10 +6,10 @@ use native.Mathlib.Omega.{arith}
 use lib.ListN.{length, set, take, drop, length-set}
 use lib.Ieee.{Float, nan, binary32, add, mul}
 use borrow.Author.Needs.{needs}
-use Rattle.layer.proofs.next.Statement.{statement}
-use Rattle.layer.proofs.next.Tie as tie
-use Rattle.layer.proofs.next.Reads as reads
-use Rattle.layer.proofs.next.Lts as lts
+use Rattle.layer.proofs.slots.next.Statement.{statement}
+use Rattle.layer.proofs.slots.next.Tie as tie
+use Rattle.layer.proofs.slots.next.Reads as reads
+use Rattle.layer.proofs.slots.next.Lts as lts
 use Rattle.description.proofs.parts.slot.Reads as slot-reads
 use Rattle.description.proofs.places.Place.past.Reads as past-reads
 
