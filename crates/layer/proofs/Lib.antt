@@ -2,3 +2,4 @@ pub mod Places
 pub mod Steps
 pub mod Asks
 pub mod Past
+pub mod Whole

@@ -17,7 +17,9 @@ use Rattle.description.specs.declared.records.LayerRecord.{LayerRecord}
 use Rattle.description.specs.declared.parts.Part.{Part}
 use Rattle.description.specs.declared.parts.Part.the-variants.{Absent, There}
 use Rattle.description.specs.declared.places.Place.{Place}
+use Rattle.layer.specs.declared.slots.Slots.{Slots}
 use Rattle.layer.specs.Layered.{slotPlace}
+use Rattle.layer.specs.Slots.{placeIn, SlotsOf}
 
 -- ---- sums of the first parts
 module _ (f : Part → ℕ) where
@@ -110,3 +112,41 @@ past-it k le ne = omega arith
 
 pub only : {i k : ℕ} → k ≤ i → i < k + 1 → i ≡ k
 only le lt = omega arith
+
+-- ---- the struct of places
+module _ (a : ArrayRecord) (r : LayerRecord) (start : Place) (s : Slots) (first : s .conv ≡ start)
+    (e1 : s .mixin ≡ slotPlace a r start 1)
+    (e2 : s .layer1x1 ≡ slotPlace a r start 2)
+    (e3 : s .head1x1 ≡ slotPlace a r start 3)
+    (e4 : s .«conv_pre» ≡ slotPlace a r start 4)
+    (e5 : s .«conv_post» ≡ slotPlace a r start 5)
+    (e6 : s .«input_mixin_pre» ≡ slotPlace a r start 6)
+    (e7 : s .«input_mixin_post» ≡ slotPlace a r start 7)
+    (e8 : s .«activation_pre» ≡ slotPlace a r start 8)
+    (e9 : s .«activation_post» ≡ slotPlace a r start 9)
+    (e10 : s .«layer1x1_post» ≡ slotPlace a r start 10)
+    (e11 : s .«head1x1_post» ≡ slotPlace a r start 11)
+    (e12 : s .end ≡ slotPlace a r start 12) where
+  place-is : (k : ℕ) → k ≤ 12 → placeIn s k ≡ slotPlace a r start k
+  unfolding placeIn
+  place-is zero h = first ∙ sym (slot-first a r start)
+  place-is (suc zero) h = e1
+  place-is (suc (suc zero)) h = e2
+  place-is (suc (suc (suc zero))) h = e3
+  place-is (suc (suc (suc (suc zero)))) h = e4
+  place-is (suc (suc (suc (suc (suc zero))))) h = e5
+  place-is (suc (suc (suc (suc (suc (suc zero)))))) h = e6
+  place-is (suc (suc (suc (suc (suc (suc (suc zero))))))) h = e7
+  place-is (suc (suc (suc (suc (suc (suc (suc (suc zero)))))))) h = e8
+  place-is (suc (suc (suc (suc (suc (suc (suc (suc (suc zero))))))))) h = e9
+  place-is (suc (suc (suc (suc (suc (suc (suc (suc (suc (suc zero)))))))))) h = e10
+  place-is (suc (suc (suc (suc (suc (suc (suc (suc (suc (suc (suc zero))))))))))) h = e11
+  place-is (suc (suc (suc (suc (suc (suc (suc (suc (suc (suc (suc (suc zero)))))))))))) h = e12
+  place-is (suc (suc (suc (suc (suc (suc (suc (suc (suc (suc (suc (suc (suc k))))))))))))) h = absurd (omega arith)
+
+  pub slots-of : SlotsOf a r s
+  slots-of = record { is = λ k h. place-is k h ∙ ap (λ (p : Place). slotPlace a r p k) (sym first) }
+
+  pub slots-end : s .end ≡ pastAll start (slotsOf a r)
+  unfolding slotPlace slotsOf
+  slots-end = e12
