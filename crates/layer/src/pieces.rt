@@ -63,3 +63,95 @@ pub fn mixer(
     convolve(work, histories, positions, weights, a, r, slots, 1, from, to, size, m);
     modulate(work, histories, positions, weights, a, r, slots, 3, to, mid, size, m);
 }
+
+// z = conv + mixin; site 4; gating; site 5.
+pub fn gate(
+    work: &mut [f32],
+    histories: &mut [f32],
+    positions: &mut [u32],
+    weights: &[f32],
+    a: ArrayRecord,
+    r: LayerRecord,
+    slots: Slots,
+    size: usize,
+    m: usize,
+)
+    requires { ⌜ LayerFits a r (slots .conv) size m (length (now work)) (now histories) (now positions) (now weights) ⌝ }
+    requires { ⌜ SlotsOf a r slots ⌝ }
+    ensures { λ _. ⌜ GatedPast a r (slots .conv) (now (weights .entry)) size m (now (work .entry)) (now (histories .entry)) (now (positions .entry))
+        (now (work .exit)) (now (histories .exit)) (now (positions .exit)) ⌝ }
+{
+    let mid = doubled(r);
+    let bottleneck = r.bottleneck;
+    let to = 6 * size;
+    let z = 7 * size;
+    let mixed = 8 * size;
+    carry::add_to(work, z, mixed, mid * m);
+    modulate(work, histories, positions, weights, a, r, slots, 4, z, mid, size, m);
+    let mode = r.mode;
+    let primary = r.primary;
+    let secondary = r.secondary;
+    gating::gating(work, to, z, bottleneck * m, mode, primary, secondary);
+    modulate(work, histories, positions, weights, a, r, slots, 5, to, bottleneck, size, m);
+}
+
+// Head1x1 then site 7, or the gated values; add to the head accumulator, accumulator first.
+pub fn head(
+    work: &mut [f32],
+    histories: &mut [f32],
+    positions: &mut [u32],
+    weights: &[f32],
+    a: ArrayRecord,
+    r: LayerRecord,
+    slots: Slots,
+    size: usize,
+    m: usize,
+)
+    requires { ⌜ LayerFits a r (slots .conv) size m (length (now work)) (now histories) (now positions) (now weights) ⌝ }
+    requires { ⌜ SlotsOf a r slots ⌝ }
+    ensures { λ _. ⌜ Headed a r (slots .conv) (now (weights .entry)) size m (now (work .entry)) (now (histories .entry)) (now (positions .entry))
+        (now (work .exit)) (now (histories .exit)) (now (positions .exit)) ⌝ }
+{
+    let accumulator = 4 * size;
+    let from = 6 * size;
+    let width = r.head1x1_width;
+    if width == 0 {
+        let bottleneck = r.bottleneck;
+        carry::add_to(work, accumulator, from, bottleneck * m);
+        return;
+    }
+    let to = 12 * size;
+    convolve(work, histories, positions, weights, a, r, slots, 3, from, to, size, m);
+    modulate(work, histories, positions, weights, a, r, slots, 7, to, width, size, m);
+    carry::add_to(work, accumulator, to, width * m);
+}
+
+// Layer1x1, site 6 only in Blended, then result + layer input; without layer1x1 the layer input. It answers where the result is.
+pub fn residual(
+    work: &mut [f32],
+    histories: &mut [f32],
+    positions: &mut [u32],
+    weights: &[f32],
+    a: ArrayRecord,
+    r: LayerRecord,
+    slots: Slots,
+    size: usize,
+    m: usize,
+) -> usize
+    requires { ⌜ LayerFits a r (slots .conv) size m (length (now work)) (now histories) (now positions) (now weights) ⌝ }
+    requires { ⌜ SlotsOf a r slots ⌝ }
+    ensures { λ result. ⌜ Residual a r (slots .conv) (now (weights .entry)) size m (now (work .entry)) (now (histories .entry)) (now (positions .entry))
+        (now (work .exit)) (now (histories .exit)) (now (positions .exit)) result ⌝ }
+{
+    let input = 2 * size;
+    if r.layer1x1_groups == 0 {
+        return input;
+    }
+    let channels = a.channels;
+    let from = 6 * size;
+    let to = 13 * size;
+    convolve(work, histories, positions, weights, a, r, slots, 2, from, to, size, m);
+    modulate(work, histories, positions, weights, a, r, slots, 6, to, channels, size, m);
+    carry::add_to(work, to, input, channels * m);
+    to
+}
