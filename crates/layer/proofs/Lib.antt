@@ -3,3 +3,4 @@ pub mod Steps
 pub mod Asks
 pub mod Past
 pub mod Whole
+pub mod All

@@ -58,6 +58,21 @@ slot-of-turn (suc (suc (suc (suc (suc (suc (suc (suc (suc (suc zero)))))))))) h 
 slot-of-turn (suc (suc (suc (suc (suc (suc (suc (suc (suc (suc (suc zero))))))))))) h = refl
 slot-of-turn (suc (suc (suc (suc (suc (suc (suc (suc (suc (suc (suc (suc k)))))))))))) h = absurd (omega arith)
 
+pub turn-lt : (k : ℕ) → k < 12 → turnOf k < 12
+turn-lt zero h = omega arith
+turn-lt (suc zero) h = omega arith
+turn-lt (suc (suc zero)) h = omega arith
+turn-lt (suc (suc (suc zero))) h = omega arith
+turn-lt (suc (suc (suc (suc zero)))) h = omega arith
+turn-lt (suc (suc (suc (suc (suc zero))))) h = omega arith
+turn-lt (suc (suc (suc (suc (suc (suc zero)))))) h = omega arith
+turn-lt (suc (suc (suc (suc (suc (suc (suc zero))))))) h = omega arith
+turn-lt (suc (suc (suc (suc (suc (suc (suc (suc zero)))))))) h = omega arith
+turn-lt (suc (suc (suc (suc (suc (suc (suc (suc (suc zero))))))))) h = omega arith
+turn-lt (suc (suc (suc (suc (suc (suc (suc (suc (suc (suc zero)))))))))) h = omega arith
+turn-lt (suc (suc (suc (suc (suc (suc (suc (suc (suc (suc (suc zero))))))))))) h = omega arith
+turn-lt (suc (suc (suc (suc (suc (suc (suc (suc (suc (suc (suc (suc k)))))))))))) h = absurd (omega arith)
+
 turns-differ : (k j : ℕ) → k < 12 → j < 12 → (k ≡ j → ⊥) → turnOf k ≡ turnOf j → ⊥
 turns-differ k j hk hj ne e = ne (sym (slot-of-turn k hk) ∙ ap slotOf e ∙ slot-of-turn j hj)
 
