@@ -1,13 +1,13 @@
 -- The five pieces, one after the other, are a layer. Assumes nothing.
-use mathlib.Core.Path.{_≡_, refl, sym, _∙_, ap}
+use mathlib.Core.Path.{sym, _∙_, ap}
 use mathlib.Core.Bool.{Bool, cond}
 use mathlib.Core.List.{List}
-use Prim.Native.Nat.{ℕ, _+_, _*_, _≤_, _<_, min, max}
+use Prim.Native.Nat.{ℕ, _*_, _<_}
 use native.Mathlib.Omega.{arith}
 use lib.ListN.{length}
-use lib.Ieee.{Float, nan}
+use lib.Ieee.{Float}
 use borrow.Author.Tests.{lt-ltb, le-ltb}
-use Rattle.lists.specs.Region.{Apart, Holds}
+use Rattle.lists.specs.Region.{Holds}
 use Rattle.lists.proofs.Regions.{holds-free}
 use Rattle.ring.specs.Memory.{Memory}
 use Rattle.description.specs.Parts.{slotsOf}

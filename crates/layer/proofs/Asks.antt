@@ -1,40 +1,33 @@
 -- What a FiLM site and a convolution ask of a layer's buffers follows from what the layer asks. Assumes nothing.
-use mathlib.Core.Path.{_≡_, refl, sym, _∙_, ap, subst}
+use mathlib.Core.Path.{_≡_, refl, sym, _∙_, ap}
 use mathlib.Core.Bool.{Bool, true, false, cond, not, _&&_, true≢false, false≢true}
 use borrow.Author.Tests.{eqb-true, eq-eqb}
-use mathlib.Core.List.{List, [], _∷_}
-use mathlib.Core.Logic.{_⊎_, inl, inr, ⊎-elim}
-use Prim.Native.Nat.{ℕ, zero, suc, _+_, _-_, _*_, _≤_, _<_, min, max}
+use mathlib.Core.List.{List}
+use Prim.Native.Nat.{ℕ, zero, suc, _+_, _-_, _*_, _≤_, _<_}
 use native.Mathlib.Omega.{arith}
 use lib.Dec.{eqb}
 use lib.ListN.{length, getD}
-use lib.Ieee.{Float, nan}
-use Rattle.lists.specs.Region.{Apart, Holds, Free}
-use Rattle.lists.proofs.Regions.{free-as, holds-as}
+use lib.Ieee.{Float}
+use Rattle.lists.specs.Region.{Apart}
 use Rattle.ring.specs.Memory.{Memory}
 use Rattle.shape.specs.declared.Shape.{Shape}
-use Rattle.shape.specs.Counts.{ringLength, historyCount, weightCount}
-use Rattle.description.specs.Parts.{convOf, mixinOf, layer1x1Of, head1x1Of, mid, slotsOf, partOf, siteOf, siteWidth, siteGroups, unless0, pointwise}
-use Rattle.description.specs.Sizes.{weightsOf, historiesOf, positionsOf, total}
+use Rattle.shape.specs.Counts.{historyCount, weightCount}
+use Rattle.description.specs.Parts.{convOf, mixinOf, layer1x1Of, head1x1Of, slotsOf, partOf, siteOf, siteWidth, siteGroups, unless0}
+use Rattle.description.specs.Sizes.{weightsOf, historiesOf, positionsOf}
 use Rattle.description.specs.Tally.{pastAll}
 use Rattle.description.specs.ZeroRules.{bit}
 use Rattle.description.specs.declared.records.ArrayRecord.{ArrayRecord}
 use Rattle.description.specs.declared.records.LayerRecord.{LayerRecord}
-use Rattle.description.specs.declared.parts.Part.{Part}
 use Rattle.description.specs.declared.parts.Part.the-variants.{Absent, There}
 use Rattle.description.specs.declared.places.Place.{Place}
 use Rattle.description.proofs.Slots.{slot-site}
-use Rattle.slot.specs.View.{memoryIn, weightsIn}
-use Rattle.slot.specs.Steps.{pushed, convolved, sited}
-use Rattle.slot.specs.Play.{PlayFits, Played}
-use Rattle.slot.specs.Site.{SiteThere, SiteFits, Sited, resultAt}
-use Rattle.slot.proofs.Trace.{play-trace, site-trace, place-stays, site-place-stays}
-use Rattle.layer.specs.Column.{isBlended, isThere, applies, appliedSite, site, site′, after, conv′, mixin′, layer1x1′, head1x1′}
-use Rattle.layer.specs.Layered.{slotPlace, slotMemory, slotWeights, memoriesAt, LayerFits}
-use Rattle.layer.specs.Slots.{turnOf}
-use Rattle.layer.specs.Pieces.{Behind, Room, insOf, outsOf, UnderWay, Leaves, SitePast, ConvPast}
+use Rattle.slot.specs.Play.{PlayFits}
+use Rattle.slot.specs.Site.{SiteThere, SiteFits}
+use Rattle.layer.specs.Column.{isBlended, applies, appliedSite, site, site′, after}
+use Rattle.layer.specs.Layered.{slotPlace, slotWeights, memoriesAt, LayerFits}
+use Rattle.layer.specs.Pieces.{Behind, Room, insOf, outsOf}
 use Rattle.layer.proofs.Places.{slot-within}
-use Rattle.layer.proofs.Steps.{histories-in, positions-in, leaves, advance, unplayed}
+use Rattle.layer.proofs.Steps.{histories-in, positions-in}
 
 -- ---- sites as they are applied
 module _ (a : ArrayRecord) (r : LayerRecord) where

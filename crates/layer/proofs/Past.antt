@@ -1,39 +1,34 @@
 -- What a FiLM site and a convolution do to a layer under way, in terms of the trace. Assumes nothing.
-use mathlib.Core.Path.{_≡_, refl, sym, _∙_, ap, subst}
-use mathlib.Core.Bool.{Bool, true, false, cond}
-use mathlib.Core.List.{List, [], _∷_}
-use mathlib.Core.Logic.{_⊎_, inl, inr, ⊎-elim}
-use Prim.Native.Nat.{ℕ, zero, suc, _+_, _-_, _*_, _≤_, _<_, min, max}
+use mathlib.Core.Path.{_≡_, refl, sym, _∙_, ap}
+use mathlib.Core.List.{List}
+use Prim.Native.Nat.{ℕ, suc, _+_, _*_, _≤_, _<_}
 use native.Mathlib.Omega.{arith}
-use lib.Dec.{eqb}
 use lib.ListN.{length, getD}
 use lib.Ieee.{Float, nan}
 use Rattle.lists.specs.Region.{Apart, Holds, Free}
 use Rattle.lists.proofs.Regions.{free-as, free-self, holds-as}
 use Rattle.ring.specs.Memory.{Memory}
 use Rattle.shape.specs.declared.Shape.{Shape}
-use Rattle.shape.specs.Counts.{ringLength, historyCount, weightCount}
-use Rattle.description.specs.Parts.{convOf, mixinOf, layer1x1Of, head1x1Of, mid, slotsOf, partOf, siteOf, siteWidth, siteGroups, unless0, pointwise}
-use Rattle.description.specs.Sizes.{weightsOf, historiesOf, positionsOf, total}
-use Rattle.description.specs.Tally.{pastAll}
+use Rattle.shape.specs.Counts.{ringLength, historyCount}
+use Rattle.description.specs.Parts.{partOf, siteWidth}
+use Rattle.description.specs.Sizes.{historiesOf, positionsOf}
 use Rattle.description.specs.ZeroRules.{bit}
 use Rattle.description.specs.declared.records.ArrayRecord.{ArrayRecord}
 use Rattle.description.specs.declared.records.LayerRecord.{LayerRecord}
 use Rattle.description.specs.declared.parts.Part.{Part}
 use Rattle.description.specs.declared.parts.Part.the-variants.{Absent, There}
 use Rattle.description.specs.declared.places.Place.{Place}
-use Rattle.description.proofs.Slots.{slot-site}
 use Rattle.slot.specs.View.{memoryIn, weightsIn}
 use Rattle.slot.specs.Steps.{pushed, convolved, sited}
-use Rattle.slot.specs.Play.{PlayFits, Played}
-use Rattle.slot.specs.Site.{SiteThere, SiteFits, Sited, resultAt}
+use Rattle.slot.specs.Play.{Played}
+use Rattle.slot.specs.Site.{Sited}
 use Rattle.slot.proofs.Trace.{play-trace, site-trace, place-stays, site-place-stays, memory-kept}
-use Rattle.layer.specs.Column.{applies, appliedSite, site, site′, after, conv′, mixin′, layer1x1′, head1x1′}
+use Rattle.layer.specs.Column.{appliedSite, site, site′}
 use Rattle.layer.specs.Layered.{slotPlace, slotMemory, slotWeights, memoriesAt, LayerFits}
 use Rattle.layer.specs.Slots.{turnOf}
-use Rattle.layer.specs.Pieces.{Room, insOf, outsOf, UnderWay, Leaves, SitePast, ConvPast}
+use Rattle.layer.specs.Pieces.{insOf, outsOf, UnderWay, Leaves, SitePast, ConvPast}
 use Rattle.layer.proofs.Steps.{histories-in, leaves, advance, unplayed}
-use Rattle.layer.proofs.Asks.{Applied, as-is, not-applied, applied, not-there, still, site-step, width-in, sides-in, play-fits, site-part, site-fits}
+use Rattle.layer.proofs.Asks.{Applied, as-is, not-applied, applied, still, site-step, width-in, sides-in}
 
 -- a place outside of the regions that a step writes
 abbrev Outside : ℕ → ℕ → ℕ → Type 0

@@ -1,8 +1,8 @@
 -- Where the numbers of a layer's slots lie: one slot after the other, none in common, within the layer's. Assumes nothing.
 use mathlib.Core.Path.{_≡_, refl, sym, _∙_, ap}
 use mathlib.Core.List.{List, [], _∷_}
-use mathlib.Core.Logic.{_⊎_, inl, inr, ⊎-elim}
-use Prim.Native.Nat.{ℕ, zero, suc, _+_, _-_, _*_, _≤_, _<_, min, max}
+use mathlib.Core.Logic.{⊎-elim}
+use Prim.Native.Nat.{ℕ, zero, suc, _+_, _≤_, _<_}
 use native.Mathlib.Nat.{add-zero, not-suc-le-zero, le-of-suc-le-suc}
 use native.Mathlib.Omega.{arith}
 use lib.ListN.{length, getD, take}
@@ -15,7 +15,7 @@ use Rattle.description.specs.Tally.{pastAll}
 use Rattle.description.specs.declared.records.ArrayRecord.{ArrayRecord}
 use Rattle.description.specs.declared.records.LayerRecord.{LayerRecord}
 use Rattle.description.specs.declared.parts.Part.{Part}
-use Rattle.description.specs.declared.parts.Part.the-variants.{Absent, There}
+use Rattle.description.specs.declared.parts.Part.the-variants.{Absent}
 use Rattle.description.specs.declared.places.Place.{Place}
 use Rattle.layer.specs.declared.slots.Slots.{Slots}
 use Rattle.layer.specs.Layered.{slotPlace}

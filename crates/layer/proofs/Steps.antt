@@ -1,29 +1,28 @@
 -- A step on one slot: it moves that slot's memory on by m columns, and leaves the other slots' memories, their places and the layer's input and condition. Assumes nothing.
 use mathlib.Core.Path.{_≡_, refl, sym, _∙_, ap, subst}
-use mathlib.Core.Bool.{Bool, true, false, cond}
+use mathlib.Core.Bool.{Bool, cond}
 use mathlib.Core.List.{List, [], _∷_}
 use mathlib.Core.Logic.{_⊎_, inl, inr, ⊎-elim}
-use Prim.Native.Nat.{ℕ, zero, suc, _+_, _-_, _*_, _≤_, _<_, min, max}
+use Prim.Native.Nat.{ℕ, zero, suc, _+_, _*_, _≤_, _<_}
 use native.Mathlib.Omega.{arith}
 use lib.Dec.{ltb}
 use lib.ListN.{length, getD}
 use lib.Ieee.{Float, nan}
 use borrow.Author.Tests.{lt-ltb, le-ltb}
-use Rattle.lists.specs.Region.{Apart, Holds, Free}
+use Rattle.lists.specs.Region.{Apart, Free}
 use Rattle.lists.proofs.Nums.{le-or-lt}
 use Rattle.lists.proofs.Regions.{free-as, holds-free}
 use Rattle.ring.specs.Memory.{Memory}
 use Rattle.shape.specs.declared.Shape.{Shape}
-use Rattle.shape.specs.Counts.{ringLength, historyCount}
-use Rattle.description.specs.Parts.{slotsOf, partOf}
-use Rattle.description.specs.Sizes.{historiesOf, positionsOf, total}
+use Rattle.shape.specs.Counts.{ringLength}
+use Rattle.description.specs.Parts.{partOf}
+use Rattle.description.specs.Sizes.{historiesOf, positionsOf}
 use Rattle.description.specs.Tally.{pastAll}
 use Rattle.description.specs.declared.records.ArrayRecord.{ArrayRecord}
 use Rattle.description.specs.declared.records.LayerRecord.{LayerRecord}
 use Rattle.description.specs.declared.parts.Part.{Part}
-use Rattle.description.specs.declared.parts.Part.the-variants.{Absent, There}
+use Rattle.description.specs.declared.parts.Part.the-variants.{There}
 use Rattle.description.specs.declared.places.Place.{Place}
-use Rattle.slot.specs.View.{memoryIn}
 use Rattle.slot.proofs.Trace.{memory-kept}
 use Rattle.layer.specs.Layered.{slotPlace, slotMemory, memoriesAt, LayerFits}
 use Rattle.layer.specs.Slots.{turnOf}

@@ -1,6 +1,6 @@
 -- Where the numbers of a layer's slots start, and the order in which the slots are played.
 use mathlib.Core.Path.{_≡_}
-use mathlib.Core.List.{List, [], _∷_}
+use mathlib.Core.List.{[], _∷_}
 use Prim.Native.Nat.{ℕ, _≤_}
 use lib.ListN.{getD}
 use Rattle.description.specs.declared.records.ArrayRecord.{ArrayRecord}

@@ -1,40 +1,24 @@
+-- Five pieces, each of which asks what the one before leaves; layer-is joins them.
 use Rattle.layer.proofs.All.{layer-low, layer-is}
 use Rattle.layer.proofs.Whole.{fits-on}
-use mathlib.Core.Path.{_≡_, refl, sym, _∙_, ap}
-use Prim.Native.Nat.{ℕ, _+_, _*_, _-_, _/_, _%_, _≤_, _<_}
-use native.Mathlib.Omega.{arith}
-use lib.ListN.{length, set, take, drop, length-set}
-use lib.Ieee.{Float, nan, binary32, add, mul}
-use borrow.Author.Needs.{needs}
+use mathlib.Core.Path.{_∙_}
 use Rattle.layer.proofs.layer.Statement.{statement}
 use Rattle.layer.proofs.layer.Tie as tie
-use Rattle.layer.proofs.layer.Reads as reads
-use Rattle.layer.proofs.layer.Lts as lts
-use Rattle.layer.proofs.pieces.front.Reads as front-reads
-use Rattle.layer.proofs.pieces.gate.Reads as gate-reads
-use Rattle.layer.proofs.pieces.head.Reads as head-reads
-use Rattle.layer.proofs.pieces.mixer.Reads as mixer-reads
-use Rattle.layer.proofs.pieces.residual.Reads as residual-reads
-use Rattle.layer.proofs.slots.slots_from.Reads as slots-from-reads
 
--- src/lib.rt:27:9
 slots-from-requires : tie.Need-slots-from-requires
 slots-from-requires c κs = (c .before .before .before .before .pre .array, (c .before .before .before .before .pre .layer, layer-low (c .before .before .before .before .pre)))
 
--- src/lib.rt:28:5
 front-requires : tie.Need-front-requires
 front-requires c κs = 
     let f0 = rw (← c .before .before .before .slots-from .ensures .0) at (c .before .before .before .before .before .before .before .before .pre) in
     (f0, c .before .before .before .slots-from .ensures .1)
 
--- src/lib.rt:29:5
 mixer-requires : tie.Need-mixer-requires
 mixer-requires c κs = 
     let f0 = rw (← c .before .before .before .before .before .before .before .before .before .before .before .before .before .slots-from .ensures .0) at (c .before .before .before .before .before .before .before .before .before .before .before .before .before .before .before .before .before .before .pre) in
     let f1 = fits-on f0 (c .before .before .before .before .before .before .before .before .before .front .ensures .leaves) in
     (f1, c .before .before .before .before .before .before .before .before .before .before .before .before .before .slots-from .ensures .1)
 
--- src/lib.rt:30:5
 gate-requires : tie.Need-gate-requires
 gate-requires c κs = 
     let f0 = rw (← c .before .before .before .before .before .before .before .before .before .before .before .before .before .before .before .before .before .before .before .before .before .before .before .slots-from .ensures .0) at (c .before .before .before .before .before .before .before .before .before .before .before .before .before .before .before .before .before .before .before .before .before .before .before .before .before .before .before .before .pre) in
@@ -42,7 +26,6 @@ gate-requires c κs =
     let f2 = fits-on f1 (c .before .before .before .before .before .before .before .before .before .mixer .ensures .leaves) in
     (f2, c .before .before .before .before .before .before .before .before .before .before .before .before .before .before .before .before .before .before .before .before .before .before .before .slots-from .ensures .1)
 
--- src/lib.rt:31:5
 head-requires : tie.Need-head-requires
 head-requires c κs = 
     let f0 = rw (← c .before .before .before .before .before .before .before .before .before .before .before .before .before .before .before .before .before .before .before .before .before .before .before .before .before .before .before .before .before .before .before .before .before .slots-from .ensures .0) at (c .before .before .before .before .before .before .before .before .before .before .before .before .before .before .before .before .before .before .before .before .before .before .before .before .before .before .before .before .before .before .before .before .before .before .before .before .before .before .pre) in
@@ -51,7 +34,6 @@ head-requires c κs =
     let f3 = fits-on f2 (c .before .before .before .before .before .before .before .before .before .gate .ensures .leaves) in
     (f3, c .before .before .before .before .before .before .before .before .before .before .before .before .before .before .before .before .before .before .before .before .before .before .before .before .before .before .before .before .before .before .before .before .before .slots-from .ensures .1)
 
--- src/lib.rt:32:5
 residual-requires : tie.Need-residual-requires
 residual-requires c κs = 
     let f0 = rw (← c .before .before .before .before .before .before .before .before .before .before .before .before .before .before .before .before .before .before .before .before .before .before .before .before .before .before .before .before .before .before .before .before .before .before .before .before .before .before .before .before .before .before .before .slots-from .ensures .0) at (c .before .before .before .before .before .before .before .before .before .before .before .before .before .before .before .before .before .before .before .before .before .before .before .before .before .before .before .before .before .before .before .before .before .before .before .before .before .before .before .before .before .before .before .before .before .before .before .before .pre) in
@@ -61,19 +43,15 @@ residual-requires c κs =
     let f4 = fits-on f3 (c .before .before .before .before .before .before .before .before .before .head .ensures .leaves) in
     (f4, c .before .before .before .before .before .before .before .before .before .before .before .before .before .before .before .before .before .before .before .before .before .before .before .before .before .before .before .before .before .before .before .before .before .before .before .before .before .before .before .before .before .before .before .slots-from .ensures .1)
 
--- src/lib.rt:12:1
 same-length : tie.Need-same-length
 same-length c = c .before .before .before .before .before .before .residual .ensures .leaves .others .long ∙ c .before .before .before .before .before .before .before .before .before .before .before .before .before .before .before .before .head .ensures .leaves .others .long ∙ c .before .before .before .before .before .before .before .before .before .before .before .before .before .before .before .before .before .before .before .before .before .before .before .before .before .before .gate .ensures .leaves .others .long ∙ c .before .before .before .before .before .before .before .before .before .before .before .before .before .before .before .before .before .before .before .before .before .before .before .before .before .before .before .before .before .before .before .before .before .before .before .before .mixer .ensures .leaves .others .long ∙ c .before .before .before .before .before .before .before .before .before .before .before .before .before .before .before .before .before .before .before .before .before .before .before .before .before .before .before .before .before .before .before .before .before .before .before .before .before .before .before .before .before .before .before .before .before .before .front .ensures .leaves .others .long
 
--- src/lib.rt:12:1
 same-length-2 : tie.Need-same-length-2
 same-length-2 c = c .before .before .before .before .before .before .residual .ensures .leaves .histories-kept .long ∙ c .before .before .before .before .before .before .before .before .before .before .before .before .before .before .before .before .head .ensures .leaves .histories-kept .long ∙ c .before .before .before .before .before .before .before .before .before .before .before .before .before .before .before .before .before .before .before .before .before .before .before .before .before .before .gate .ensures .leaves .histories-kept .long ∙ c .before .before .before .before .before .before .before .before .before .before .before .before .before .before .before .before .before .before .before .before .before .before .before .before .before .before .before .before .before .before .before .before .before .before .before .before .mixer .ensures .leaves .histories-kept .long ∙ c .before .before .before .before .before .before .before .before .before .before .before .before .before .before .before .before .before .before .before .before .before .before .before .before .before .before .before .before .before .before .before .before .before .before .before .before .before .before .before .before .before .before .before .before .before .before .front .ensures .leaves .histories-kept .long
 
--- src/lib.rt:12:1
 same-length-3 : tie.Need-same-length-3
 same-length-3 c = c .before .before .before .before .before .before .residual .ensures .leaves .positions-kept .long ∙ c .before .before .before .before .before .before .before .before .before .before .before .before .before .before .before .before .head .ensures .leaves .positions-kept .long ∙ c .before .before .before .before .before .before .before .before .before .before .before .before .before .before .before .before .before .before .before .before .before .before .before .before .before .before .gate .ensures .leaves .positions-kept .long ∙ c .before .before .before .before .before .before .before .before .before .before .before .before .before .before .before .before .before .before .before .before .before .before .before .before .before .before .before .before .before .before .before .before .before .before .before .before .mixer .ensures .leaves .positions-kept .long ∙ c .before .before .before .before .before .before .before .before .before .before .before .before .before .before .before .before .before .before .before .before .before .before .before .before .before .before .before .before .before .before .before .before .before .before .before .before .before .before .before .before .before .before .before .before .before .before .front .ensures .leaves .positions-kept .long
 
--- src/lib.rt:12:1
 returns : tie.Need-returns
 returns c = 
     let f0 = rw (← c .before .before .before .before .before .before .before .before .before .before .before .before .before .before .before .before .before .before .before .before .before .before .before .before .before .before .before .before .before .before .before .before .before .before .before .before .before .before .before .before .before .before .before .before .before .before .before .before .before .before .slots-from .ensures .0) at (c .before .before .before .before .before .before .before .before .before .before .before .before .before .before .before .before .before .before .before .before .before .before .before .before .before .before .before .before .before .before .before .before .before .before .before .before .before .before .before .before .before .before .before .before .before .before .before .before .before .before .before .before .before .before .before .pre) in

@@ -1,49 +1,35 @@
+-- Four steps, each of which asks what the one before leaves; gate-is joins them.
 use Rattle.description.specs.Parts.{mid, siteWidth}
 use Rattle.layer.proofs.Whole.{fits-on, behind, room6, room7, add-leaves, gating-leaves, gating-fits, gate-is}
-use mathlib.Core.Path.{_≡_, refl, sym, _∙_, ap}
-use Prim.Native.Nat.{ℕ, _+_, _*_, _-_, _/_, _%_, _≤_, _<_}
+use mathlib.Core.Path.{refl, _∙_, ap}
+use Prim.Native.Nat.{ℕ, _*_}
 use native.Mathlib.Omega.{arith}
-use lib.ListN.{length, set, take, drop, length-set}
-use lib.Ieee.{Float, nan, binary32, add, mul}
 use borrow.Author.Needs.{needs}
 use Rattle.layer.proofs.pieces.gate.Statement.{statement}
 use Rattle.layer.proofs.pieces.gate.Tie as tie
-use Rattle.layer.proofs.pieces.gate.Reads as reads
-use Rattle.layer.proofs.pieces.gate.Lts as lts
-use Rattle.carry.proofs.add_to.Reads as add-to-reads
-use Rattle.description.proofs.parts.doubled.Reads as doubled-reads
-use Rattle.gating.proofs.gating.Reads as gating-reads
-use Rattle.layer.proofs.sites.modulate.Reads as modulate-reads
 
--- src/pieces.rt:84:9
 doubled-requires : tie.Need-doubled-requires
 doubled-requires c κs = search needs
 
--- src/pieces.rt:86:14
 mul-to : tie.Need-mul-to
 mul-to c = search needs
 
--- src/pieces.rt:87:13
 mul-z : tie.Need-mul-z
 mul-z c = search needs
 
--- src/pieces.rt:88:17
 mul-mixed : tie.Need-mul-mixed
 mul-mixed c = search needs
 
--- src/pieces.rt:89:35
 mul-add-to : tie.Need-mul-add-to
 mul-add-to c = 
     let e = ap (λ (n : ℕ). n * c .before .before .before .before .before .before .args .m) (c .before .doubled .ensures) in
     record { fits = omega (arith, e, c .before .before .before .before .before .before .pre .0 .mid-in, c .before .before .before .before .before .before .pre .0 .work-in, c .before .before .before .before .before .before .pre .0 .small) }
 
--- src/pieces.rt:89:5
 add-to-requires : tie.Need-add-to-requires
 add-to-requires c κs = 
     let e = ap (λ (n : ℕ). n * c .before .before .before .before .before .before .args .m) (c .before .doubled .ensures) in
     (omega (arith, e, c .before .before .before .before .before .before .pre .0 .mid-in, c .before .before .before .before .before .before .pre .0 .work-in), omega (arith, e, c .before .before .before .before .before .before .pre .0 .mid-in, c .before .before .before .before .before .before .pre .0 .work-in), omega (arith, e, c .before .before .before .before .before .before .pre .0 .mid-in))
 
--- src/pieces.rt:90:5
 modulate-requires : tie.Need-modulate-requires
 unfolding siteWidth
 modulate-requires c κs = 
@@ -53,11 +39,9 @@ modulate-requires c κs =
     let f1 = fits-on f (add-leaves _ _ f (7 * n) (mid (c .before .before .before .before .before .before .before .before .before .before .before .before .args .r)) _ (f .mid-in) sum) in
     (f1, (c .before .before .before .before .before .before .before .before .before .before .before .before .pre .1, (behind 4 (omega arith), room7 _, c .before .before .before .before .before .before .before .doubled .ensures)))
 
--- src/pieces.rt:94:33
 mul-gating : tie.Need-mul-gating
 mul-gating c = record { fits = omega (arith, c .before .before .before .before .before .before .before .before .before .before .before .before .before .before .before .before .before .before .before .before .pre .0 .bottleneck-in, c .before .before .before .before .before .before .before .before .before .before .before .before .before .before .before .before .before .before .before .before .pre .0 .work-in, c .before .before .before .before .before .before .before .before .before .before .before .before .before .before .before .before .before .before .before .before .pre .0 .small) }
 
--- src/pieces.rt:94:5
 gating-requires : tie.Need-gating-requires
 gating-requires c κs = 
     let n = c .before .before .before .before .before .before .before .before .before .before .before .before .before .before .before .before .before .before .before .before .args .size in
@@ -66,7 +50,6 @@ gating-requires c κs =
     let f1 = fits-on f (add-leaves _ _ f (7 * n) (mid (c .before .before .before .before .before .before .before .before .before .before .before .before .before .before .before .before .before .before .before .before .args .r)) _ (f .mid-in) sum) in
     gating-fits (fits-on f1 (c .before .before .before .before .before .before .before .modulate .ensures .leaves))
 
--- src/pieces.rt:95:5
 modulate-requires-2 : tie.Need-modulate-requires-2
 unfolding siteWidth
 modulate-requires-2 c κs = 
@@ -77,19 +60,15 @@ modulate-requires-2 c κs =
     let f2 = fits-on f1 (c .before .before .before .before .before .before .before .before .before .before .before .before .before .modulate .ensures .leaves) in
     (fits-on f2 (gating-leaves _ _ f2 (c .before .before .before .before .before .gating .ensures)), (c .before .before .before .before .before .before .before .before .before .before .before .before .before .before .before .before .before .before .before .before .before .before .before .before .before .before .pre .1, (behind 5 (omega arith), room6 _, refl)))
 
--- src/pieces.rt:68:1
 same-length : tie.Need-same-length
 same-length c = c .before .before .before .before .before .before .modulate2 .ensures .leaves .others .long ∙ c .before .before .before .before .before .before .before .before .before .before .before .before .gating .ensures .kept .long ∙ c .before .before .before .before .before .before .before .before .before .before .before .before .before .before .before .before .before .before .before .before .modulate .ensures .leaves .others .long ∙ c .before .before .before .before .before .before .before .before .before .before .before .before .before .before .before .before .before .before .before .before .before .before .before .before .before .before .add-to .kept .0
 
--- src/pieces.rt:68:1
 same-length-2 : tie.Need-same-length-2
 same-length-2 c = c .before .before .before .before .before .before .modulate2 .ensures .leaves .histories-kept .long ∙ c .before .before .before .before .before .before .before .before .before .before .before .before .before .before .before .before .before .before .before .before .modulate .ensures .leaves .histories-kept .long
 
--- src/pieces.rt:68:1
 same-length-3 : tie.Need-same-length-3
 same-length-3 c = c .before .before .before .before .before .before .modulate2 .ensures .leaves .positions-kept .long ∙ c .before .before .before .before .before .before .before .before .before .before .before .before .before .before .before .before .before .before .before .before .modulate .ensures .leaves .positions-kept .long
 
--- src/pieces.rt:68:1
 returns : tie.Need-returns
 returns c = 
     let sum = rw (c .before .before .before .before .before .before .before .before .before .before .before .before .before .before .before .before .before .before .before .before .before .before .before .before .before .before .before .before .doubled .ensures) at (c .before .before .before .before .before .before .before .before .before .before .before .before .before .before .before .before .before .before .before .before .before .before .before .before .before .before .add-to .ensures) in

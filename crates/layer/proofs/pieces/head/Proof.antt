@@ -1,79 +1,57 @@
+-- With head1x1 three steps, joined by head-is; without it one, bare-head.
 use Rattle.layer.proofs.Whole.{fits-on, behind-head1x1, last-is, room12, bare-head, head-is}
-use mathlib.Core.Path.{_≡_, refl, sym, _∙_, ap}
-use Prim.Native.Nat.{ℕ, _+_, _*_, _-_, _/_, _%_, _≤_, _<_}
+use mathlib.Core.Path.{_∙_}
 use native.Mathlib.Omega.{arith}
-use lib.ListN.{length, set, take, drop, length-set}
-use lib.Ieee.{Float, nan, binary32, add, mul}
 use borrow.Author.Needs.{needs}
 use Rattle.layer.proofs.pieces.head.Statement.{statement}
 use Rattle.layer.proofs.pieces.head.Tie as tie
-use Rattle.layer.proofs.pieces.head.Reads as reads
-use Rattle.layer.proofs.pieces.head.Lts as lts
-use Rattle.carry.proofs.add_to.Reads as add-to-reads
-use Rattle.layer.proofs.sites.convolve.Reads as convolve-reads
-use Rattle.layer.proofs.sites.modulate.Reads as modulate-reads
 
--- src/pieces.rt:115:23
 mul-accumulator : tie.Need-mul-accumulator
 mul-accumulator c = search needs
 
--- src/pieces.rt:116:16
 mul-from : tie.Need-mul-from
 mul-from c = search needs
 
--- src/pieces.rt:120:48
 mul-add-to : tie.Need-mul-add-to
 mul-add-to c = record { fits = omega (arith, c .before .before .before .before .before .before .pre .0 .bottleneck-in, c .before .before .before .before .before .before .pre .0 .work-in, c .before .before .before .before .before .before .pre .0 .small) }
 
--- src/pieces.rt:120:9
 add-to-requires : tie.Need-add-to-requires
 add-to-requires c κs = 
     let f = c .before .before .before .before .before .before .pre .0 in
     (omega (arith, f .bottleneck-in, f .work-in), omega (arith, f .bottleneck-in, f .work-in), omega (arith, f .bottleneck-in))
 
--- src/pieces.rt:121:9
 same-length : tie.Need-same-length
 same-length c = c .before .before .add-to .kept .0
 
--- src/pieces.rt:121:9
 returns : tie.Need-returns
 returns c = bare-head _ _ (c .before .before .before .before .before .before .before .before .before .pre .0) (c .before .before .before .before .if1 .taken) (c .before .before .add-to .ensures)
 
--- src/pieces.rt:123:14
 mul-to : tie.Need-mul-to
 mul-to c = search needs
 
--- src/pieces.rt:124:5
 convolve-requires : tie.Need-convolve-requires
 convolve-requires c κs = (c .before .before .before .before .before .before .before .before .pre .0, (c .before .before .before .before .before .before .before .before .pre .1, (omega arith, room12 _, omega arith, omega arith)))
 
--- src/pieces.rt:125:5
 modulate-requires : tie.Need-modulate-requires
 modulate-requires c κs = (fits-on (c .before .before .before .before .before .before .before .before .before .before .before .before .before .before .before .before .before .before .pre .0) (c .before .before .before .before .before .before .before .before .before .convolve .ensures .leaves), (c .before .before .before .before .before .before .before .before .before .before .before .before .before .before .before .before .before .before .pre .1, (behind-head1x1 _ _ (c .before .before .before .before .before .before .before .before .before .before .before .before .before .if1 .left), room12 _, last-is _ _ (c .before .before .before .before .before .before .before .before .before .before .before .before .before .if1 .left))))
 
--- src/pieces.rt:126:42
 mul-add-to-2 : tie.Need-mul-add-to-2
 mul-add-to-2 c = record { fits = omega (arith, c .before .before .before .before .before .before .before .before .before .before .before .before .before .before .before .before .before .before .before .before .before .before .before .before .before .before .pre .0 .head1x1-in, c .before .before .before .before .before .before .before .before .before .before .before .before .before .before .before .before .before .before .before .before .before .before .before .before .before .before .pre .0 .work-in, c .before .before .before .before .before .before .before .before .before .before .before .before .before .before .before .before .before .before .before .before .before .before .before .before .before .before .pre .0 .small) }
 
--- src/pieces.rt:126:5
 add-to-requires-2 : tie.Need-add-to-requires-2
 add-to-requires-2 c κs = 
     let f = fits-on (fits-on (c .before .before .before .before .before .before .before .before .before .before .before .before .before .before .before .before .before .before .before .before .before .before .before .before .before .before .pre .0) (c .before .before .before .before .before .before .before .before .before .before .before .before .before .before .before .before .before .convolve .ensures .leaves)) (c .before .before .before .before .before .before .before .modulate .ensures .leaves) in
     (omega (arith, f .head1x1-in, f .work-in), omega (arith, f .head1x1-in, f .work-in), omega (arith, f .head1x1-in))
 
--- src/pieces.rt:99:1
 same-length-2 : tie.Need-same-length-2
 same-length-2 c = c .before .before .add-to2 .kept .0 ∙ c .before .before .before .before .before .before .before .before .before .before .modulate .ensures .leaves .others .long ∙ c .before .before .before .before .before .before .before .before .before .before .before .before .before .before .before .before .before .before .before .before .convolve .ensures .leaves .others .long
 
--- src/pieces.rt:99:1
 same-length-3 : tie.Need-same-length-3
 same-length-3 c = c .before .before .before .before .before .before .before .before .before .before .modulate .ensures .leaves .histories-kept .long ∙ c .before .before .before .before .before .before .before .before .before .before .before .before .before .before .before .before .before .before .before .before .convolve .ensures .leaves .histories-kept .long
 
--- src/pieces.rt:99:1
 same-length-4 : tie.Need-same-length-4
 same-length-4 c = c .before .before .before .before .before .before .before .before .before .before .modulate .ensures .leaves .positions-kept .long ∙ c .before .before .before .before .before .before .before .before .before .before .before .before .before .before .before .before .before .before .before .before .convolve .ensures .leaves .positions-kept .long
 
--- src/pieces.rt:99:1
 returns-2 : tie.Need-returns-2
 returns-2 c = head-is _ _ _ _ (c .before .before .before .before .before .before .before .before .before .before .before .before .before .before .before .before .before .before .before .before .before .before .before .before .before .before .before .before .before .pre .0) (c .before .before .before .before .before .before .before .before .before .before .before .before .before .before .before .before .before .before .before .before .before .before .before .before .if1 .left) (c .before .before .before .before .before .before .before .before .before .before .before .before .before .before .before .before .before .before .before .before .convolve .ensures) (c .before .before .before .before .before .before .before .before .before .before .modulate .ensures) (c .before .before .add-to2 .ensures)
 

@@ -1,49 +1,33 @@
+-- What the site asks and does is site_in's, at the layer's places.
 use Rattle.layer.proofs.Past.{site-past}
 use Rattle.layer.proofs.Asks.{site-fits}
-use mathlib.Core.Path.{_≡_, refl, sym, _∙_, ap}
-use Prim.Native.Nat.{ℕ, _+_, _*_, _-_, _/_, _%_, _≤_, _<_}
+use mathlib.Core.Path.{_∙_}
 use native.Mathlib.Omega.{arith}
-use lib.ListN.{length, set, take, drop, length-set}
-use lib.Ieee.{Float, nan, binary32, add, mul}
 use borrow.Author.Needs.{needs}
 use Rattle.layer.proofs.sites.modulate.Statement.{statement}
 use Rattle.layer.proofs.sites.modulate.Tie as tie
-use Rattle.layer.proofs.sites.modulate.Reads as reads
-use Rattle.layer.proofs.sites.modulate.Lts as lts
-use Rattle.layer.proofs.slots.Slots.place.Reads as place-reads
-use Rattle.layer.proofs.sites.applied_site.Reads as applied-site-reads
-use Rattle.layer.proofs.sites.shifted.Reads as shifted-reads
-use Rattle.slot.proofs.site_in.Reads as site-in-reads
 
--- src/lib.rt:154:9
 applied-site-requires : tie.Need-applied-site-requires
 applied-site-requires c κs = search needs
 
--- src/lib.rt:155:9
 shifted-requires : tie.Need-shifted-requires
 shifted-requires c κs = search needs
 
--- src/lib.rt:156:26
 add-place : tie.Need-add-place
 add-place c = search needs
 
--- src/lib.rt:156:9
 place-requires : tie.Need-place-requires
 place-requires c κs = search needs
 
--- src/lib.rt:157:21
 mul-condition : tie.Need-mul-condition
 mul-condition c = search needs
 
--- src/lib.rt:158:13
 mul-s : tie.Need-mul-s
 mul-s c = search needs
 
--- src/lib.rt:159:16
 mul-rows : tie.Need-mul-rows
 mul-rows c = search needs
 
--- src/lib.rt:161:5
 site-in-requires : tie.Need-site-in-requires
 site-in-requires c κs = 
     let p = c .before .before .before .before .before .applied-site .ensures in
@@ -53,19 +37,15 @@ site-in-requires c κs =
     let room = c .before .before .before .before .before .before .before .before .before .before .pre .1 .1 .1 in
     rw (p, b, e, w) (site-fits (c .before .before .before .before .before .before .before .before .before .before .pre .0) _ (c .before .before .before .before .before .before .before .before .before .before .pre .1 .1 .0 .site-in) _ (room .end) (room .beside))
 
--- src/lib.rt:134:1
 same-length : tie.Need-same-length
 same-length c = search needs
 
--- src/lib.rt:134:1
 same-length-2 : tie.Need-same-length-2
 same-length-2 c = search needs
 
--- src/lib.rt:134:1
 same-length-3 : tie.Need-same-length-3
 same-length-3 c = search needs
 
--- src/lib.rt:134:1
 returns : tie.Need-returns
 returns c = 
     let p = c .before .before .before .before .before .before .before .before .before .before .before .before .applied-site .ensures in

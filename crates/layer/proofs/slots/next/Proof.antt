@@ -1,28 +1,19 @@
+-- A slot ends where the next one starts: slot-next.
 use Rattle.description.proofs.Slots.{slot-fits}
 use Rattle.layer.proofs.Places.{slot-low, slot-next, low-more}
-use mathlib.Core.Path.{_≡_, refl, sym, _∙_, ap}
-use Prim.Native.Nat.{ℕ, _+_, _*_, _-_, _/_, _%_, _≤_, _<_}
+use mathlib.Core.Path.{_∙_}
 use native.Mathlib.Omega.{arith}
-use lib.ListN.{length, set, take, drop, length-set}
-use lib.Ieee.{Float, nan, binary32, add, mul}
 use borrow.Author.Needs.{needs}
 use Rattle.layer.proofs.slots.next.Statement.{statement}
 use Rattle.layer.proofs.slots.next.Tie as tie
-use Rattle.layer.proofs.slots.next.Reads as reads
-use Rattle.layer.proofs.slots.next.Lts as lts
-use Rattle.description.proofs.parts.slot.Reads as slot-reads
-use Rattle.description.proofs.places.Place.past.Reads as past-reads
 
--- src/lib.rt:66:13
 slot-requires : tie.Need-slot-requires
 slot-requires c κs = search needs
 
--- src/lib.rt:66:5
 past-requires : tie.Need-past-requires
 past-requires c κs =
     (rw (c .before .pre .1 .1 .1 .1) (low-more 0xffff_ffff 0x100_0000_0000 (omega arith) (slot-low _ _ _ 0xffff_ffff _ (c .before .pre .1 .1 .0))), rw (c .slot .ensures) (slot-fits (c .before .pre .0) (c .before .pre .1 .0) _))
 
--- src/lib.rt:59:1
 returns : tie.Need-returns
 returns c = c .past .ensures ∙ rw (c .before .before .pre .1 .1 .1 .1, c .before .slot .ensures) (slot-next _ _ _ _ (c .before .before .pre .1 .1 .1 .0))
 

@@ -1,65 +1,46 @@
+-- Each place comes from the one before; slots-of gathers them.
 use Rattle.layer.proofs.Places.{slot-first, slots-of, slots-end}
-use mathlib.Core.Path.{_≡_, refl, sym, _∙_, ap}
-use Prim.Native.Nat.{ℕ, _+_, _*_, _-_, _/_, _%_, _≤_, _<_}
+use mathlib.Core.Path.{refl, sym}
 use native.Mathlib.Omega.{arith}
-use lib.ListN.{length, set, take, drop, length-set}
-use lib.Ieee.{Float, nan, binary32, add, mul}
-use borrow.Author.Needs.{needs}
 use Rattle.layer.proofs.slots.slots_from.Statement.{statement}
 use Rattle.layer.proofs.slots.slots_from.Tie as tie
-use Rattle.layer.proofs.slots.slots_from.Reads as reads
-use Rattle.layer.proofs.slots.slots_from.Lts as lts
-use Rattle.layer.proofs.slots.next.Reads as next-reads
 
--- src/slots.rt:71:9
 next-requires : tie.Need-next-requires
 next-requires c κs = (c .pre .0, (c .pre .1 .0, (c .pre .1 .1, (omega arith, sym (slot-first _ _ _)))))
 
--- src/slots.rt:72:9
 next-requires-2 : tie.Need-next-requires-2
 next-requires-2 c κs = (c .before .pre .0, (c .before .pre .1 .0, (c .before .pre .1 .1, (omega arith, c .next .ensures))))
 
--- src/slots.rt:73:9
 next-requires-3 : tie.Need-next-requires-3
 next-requires-3 c κs = (c .before .before .pre .0, (c .before .before .pre .1 .0, (c .before .before .pre .1 .1, (omega arith, c .next2 .ensures))))
 
--- src/slots.rt:74:9
 next-requires-4 : tie.Need-next-requires-4
 next-requires-4 c κs = (c .before .before .before .pre .0, (c .before .before .before .pre .1 .0, (c .before .before .before .pre .1 .1, (omega arith, c .next3 .ensures))))
 
--- src/slots.rt:75:9
 next-requires-5 : tie.Need-next-requires-5
 next-requires-5 c κs = (c .before .before .before .before .pre .0, (c .before .before .before .before .pre .1 .0, (c .before .before .before .before .pre .1 .1, (omega arith, c .next4 .ensures))))
 
--- src/slots.rt:76:9
 next-requires-6 : tie.Need-next-requires-6
 next-requires-6 c κs = (c .before .before .before .before .before .pre .0, (c .before .before .before .before .before .pre .1 .0, (c .before .before .before .before .before .pre .1 .1, (omega arith, c .next5 .ensures))))
 
--- src/slots.rt:77:9
 next-requires-7 : tie.Need-next-requires-7
 next-requires-7 c κs = (c .before .before .before .before .before .before .pre .0, (c .before .before .before .before .before .before .pre .1 .0, (c .before .before .before .before .before .before .pre .1 .1, (omega arith, c .next6 .ensures))))
 
--- src/slots.rt:78:9
 next-requires-8 : tie.Need-next-requires-8
 next-requires-8 c κs = (c .before .before .before .before .before .before .before .pre .0, (c .before .before .before .before .before .before .before .pre .1 .0, (c .before .before .before .before .before .before .before .pre .1 .1, (omega arith, c .next7 .ensures))))
 
--- src/slots.rt:79:9
 next-requires-9 : tie.Need-next-requires-9
 next-requires-9 c κs = (c .before .before .before .before .before .before .before .before .pre .0, (c .before .before .before .before .before .before .before .before .pre .1 .0, (c .before .before .before .before .before .before .before .before .pre .1 .1, (omega arith, c .next8 .ensures))))
 
--- src/slots.rt:80:9
 next-requires-10 : tie.Need-next-requires-10
 next-requires-10 c κs = (c .before .before .before .before .before .before .before .before .before .pre .0, (c .before .before .before .before .before .before .before .before .before .pre .1 .0, (c .before .before .before .before .before .before .before .before .before .pre .1 .1, (omega arith, c .next9 .ensures))))
 
--- src/slots.rt:81:9
 next-requires-11 : tie.Need-next-requires-11
 next-requires-11 c κs = (c .before .before .before .before .before .before .before .before .before .before .pre .0, (c .before .before .before .before .before .before .before .before .before .before .pre .1 .0, (c .before .before .before .before .before .before .before .before .before .before .pre .1 .1, (omega arith, c .next10 .ensures))))
 
--- src/slots.rt:82:9
 next-requires-12 : tie.Need-next-requires-12
 next-requires-12 c κs = (c .before .before .before .before .before .before .before .before .before .before .before .pre .0, (c .before .before .before .before .before .before .before .before .before .before .before .pre .1 .0, (c .before .before .before .before .before .before .before .before .before .before .before .pre .1 .1, (omega arith, c .next11 .ensures))))
 
--- src/slots.rt:65:1
 returns : tie.Need-returns
 returns c = 
     (refl, slots-of _ _ (c .before .before .before .before .before .before .before .before .before .before .before .before .args .start) _ refl (c .before .before .before .before .before .before .before .before .before .before .before .next .ensures) (c .before .before .before .before .before .before .before .before .before .before .next2 .ensures) (c .before .before .before .before .before .before .before .before .before .next3 .ensures) (c .before .before .before .before .before .before .before .before .next4 .ensures) (c .before .before .before .before .before .before .before .next5 .ensures) (c .before .before .before .before .before .before .next6 .ensures) (c .before .before .before .before .before .next7 .ensures) (c .before .before .before .before .next8 .ensures) (c .before .before .before .next9 .ensures) (c .before .before .next10 .ensures) (c .before .next11 .ensures) (c .next12 .ensures),

@@ -1,72 +1,54 @@
+-- Each arm gives the place that its number names.
 use Rattle.layer.proofs.Places.{past-zero, past-it, only}
 use Rattle.layer.specs.Slots.{placeIn}
-use mathlib.Core.Path.{_≡_, refl, sym, _∙_, ap}
-use Prim.Native.Nat.{ℕ, _+_, _*_, _-_, _/_, _%_, _≤_, _<_}
-use native.Mathlib.Omega.{arith}
-use lib.ListN.{length, set, take, drop, length-set}
-use lib.Ieee.{Float, nan, binary32, add, mul}
-use borrow.Author.Needs.{needs}
+use mathlib.Core.Path.{_≡_}
 use Rattle.layer.proofs.slots.Slots.place.Statement.{statement}
 use Rattle.layer.proofs.slots.Slots.place.Tie as tie
-use Rattle.layer.proofs.slots.Slots.place.Reads as reads
-use Rattle.layer.proofs.slots.Slots.place.Lts as lts
 
--- src/lib.rt:37:5
 returns : tie.Need-returns
 unfolding placeIn
 returns c = rw (c .before .match .keys1)
 
--- src/lib.rt:37:5
 returns-2 : tie.Need-returns-2
 unfolding placeIn
 returns-2 c = rw (c .before .match .keys2)
 
--- src/lib.rt:37:5
 returns-3 : tie.Need-returns-3
 unfolding placeIn
 returns-3 c = rw (c .before .match .keys3)
 
--- src/lib.rt:37:5
 returns-4 : tie.Need-returns-4
 unfolding placeIn
 returns-4 c = rw (c .before .match .keys4)
 
--- src/lib.rt:37:5
 returns-5 : tie.Need-returns-5
 unfolding placeIn
 returns-5 c = rw (c .before .match .keys5)
 
--- src/lib.rt:37:5
 returns-6 : tie.Need-returns-6
 unfolding placeIn
 returns-6 c = rw (c .before .match .keys6)
 
--- src/lib.rt:37:5
 returns-7 : tie.Need-returns-7
 unfolding placeIn
 returns-7 c = rw (c .before .match .keys7)
 
--- src/lib.rt:37:5
 returns-8 : tie.Need-returns-8
 unfolding placeIn
 returns-8 c = rw (c .before .match .keys8)
 
--- src/lib.rt:37:5
 returns-9 : tie.Need-returns-9
 unfolding placeIn
 returns-9 c = rw (c .before .match .keys9)
 
--- src/lib.rt:37:5
 returns-10 : tie.Need-returns-10
 unfolding placeIn
 returns-10 c = rw (c .before .match .keys10)
 
--- src/lib.rt:37:5
 returns-11 : tie.Need-returns-11
 unfolding placeIn
 returns-11 c = rw (c .before .match .keys11)
 
--- src/lib.rt:37:5
 returns-12 : tie.Need-returns-12
 unfolding placeIn
 returns-12 c =
