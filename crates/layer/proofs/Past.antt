@@ -86,19 +86,21 @@ module _ {a : ArrayRecord} {r : LayerRecord} {start : Place} {size m nwork : ℕ
           let at : Place = slotPlace a r start (4 + i) in
           let first : R 0 ≡ memoryIn (appliedSite a r i) at histories positions =
           sym (unplayed (4 + i) (omega arith) u) ∙ ap (λ (p : Part). memoryIn p at histories positions) (sym q) in
-          let tr = site-trace st held (u .condition) R first step in
-          (ap (λ (p : Part). memoryIn p at histories′ positions′) (sym q) ∙ tr .1,
-          holds-as (tr .0) (λ o t ho ht.
-          ap (λ (p : Part). sited (appliedSite a r i) (bit (r .«shift_bits») i) (siteWidth a r i) (weightsIn p at weights) (R (suc t)) (v t) o) q
-          ∙ ap (λ (z : Memory). sited (appliedSite a r i) (bit (r .«shift_bits») i) (siteWidth a r i) (weightsIn (partOf a r (4 + i)) at weights) z (v t) o) (step t)))
+          let tr = site-trace st held (u .condition) R first step in (
+            ap (λ (p : Part). memoryIn p at histories′ positions′) (sym q) ∙ tr .1,
+            holds-as (tr .0) (λ o t ho ht.
+                ap (λ (p : Part). sited (appliedSite a r i) (bit (r .«shift_bits») i) (siteWidth a r i) (weightsIn p at weights) (R (suc t)) (v t) o) q
+                ∙ ap (λ (z : Memory). sited (appliedSite a r i) (bit (r .«shift_bits») i) (siteWidth a r i) (weightsIn (partOf a r (4 + i)) at weights) z (v t) o) (step t)),
+          )
       does (not-applied q) =
           let h : historiesOf (appliedSite a r i) ≡ 0 = ap historiesOf q in
-          let p : positionsOf (appliedSite a r i) ≡ 0 = ap positionsOf q in
-          (memory-kept (st .histories-kept) (st .positions-kept) (partOf a r (4 + i)) (slotPlace a r start (4 + i)) (histories-in fits (4 + i) (omega arith))
-          (λ n lo hi. omega (arith, h)) (λ n lo hi. omega (arith, p))
-          ∙ unplayed (4 + i) (omega arith) u
-          ∙ sym (still (λ t. M t (4 + i)) (λ t. step t ∙ ap (λ (p : Part). pushed p (M t (4 + i)) (c t)) q) m),
-          holds-as (st .outs v c held (u .condition)) (λ o t ho ht. rw q))
+          let p : positionsOf (appliedSite a r i) ≡ 0 = ap positionsOf q in (
+            memory-kept (st .histories-kept) (st .positions-kept) (partOf a r (4 + i)) (slotPlace a r start (4 + i)) (histories-in fits (4 + i) (omega arith))
+                (λ n lo hi. omega (arith, h)) (λ n lo hi. omega (arith, p))
+                ∙ unplayed (4 + i) (omega arith) u
+                ∙ sym (still (λ t. M t (4 + i)) (λ t. step t ∙ ap (λ (p : Part). pushed p (M t (4 + i)) (c t)) q) m),
+            holds-as (st .outs v c held (u .condition)) (λ o t ho ht. rw q),
+          )
 
       site-under-way : UnderWay a r start weights size m x c s (suc (turnOf (4 + i))) work′ histories′ positions′
       site-under-way =
@@ -119,11 +121,12 @@ module _ {a : ArrayRecord} {r : LayerRecord} {start : Place} {size m nwork : ℕ
     unfolding outsOf pushed historiesOf positionsOf
     conv-absent q =
         record {
-          by = λ x c s f u held step.
-              (advance fits k (omega arith) Absent (nothing historiesOf refl) (nothing positionsOf refl) free-self free-self (free-self {P = λ n. Unit {0}}) (λ n h. tt) u
-              (unplayed k (omega arith) u
-              ∙ sym (still (λ t. memoriesAt a r start weights x c s t k) (λ t. step t ∙ ap (λ (p : Part). pushed p (memoriesAt a r start weights x c s t k) (f t)) q) m)),
-              record { is = λ o t ho ht. absurd (omega (arith, ho, ap outsOf q)) });
+          by = λ x c s f u held step. (
+            advance fits k (omega arith) Absent (nothing historiesOf refl) (nothing positionsOf refl) free-self free-self (free-self {P = λ n. Unit {0}}) (λ n h. tt) u
+                (unplayed k (omega arith) u
+                ∙ sym (still (λ t. memoriesAt a r start weights x c s t k) (λ t. step t ∙ ap (λ (p : Part). pushed p (memoriesAt a r start weights x c s t k) (f t)) q) m)),
+            record { is = λ o t ho ht. absurd (omega (arith, ho, ap outsOf q)) },
+          );
           leaves = leaves fits k (omega arith) Absent (nothing historiesOf refl) (nothing positionsOf refl) free-self free-self free-self
               (λ sh e. fits .slots k (omega arith) sh e .place-in);
         }

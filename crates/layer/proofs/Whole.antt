@@ -338,9 +338,10 @@ module _ {a : ArrayRecord} {r : LayerRecord} {start : Place} {weights : List Flo
       let u1 = under-way-on fits (add-kept w0 w1 fits (4 * size) (r .bottleneck) _ (fits .bottleneck-in) s1) (λ i k. omega (arith, k)) u in
       let f1 = fits-on fits (add-leaves w0 w1 fits (4 * size) (r .bottleneck) _ (fits .bottleneck-in) s1) in
       let acc′ : Holds (4 * size) (r .bottleneck) m (λ o t. h t o) w0 = record { is = λ o t ho ht. acc .is o t (omega (arith, ho, narrow-head)) ht } in
-      let sum = add-holds (4 * size) (6 * size) (r .bottleneck) m _ _ w0 w1 s1 (omega (arith, fits .bottleneck-in, fits .work-in)) acc′ g in
-      (skip f1 11 (omega arith) (λ t. rw absent-site) (skip f1 3 (omega arith) (λ t. rw absent-head) u1),
-      record { is = λ o t ho ht. sum .is o t (omega (arith, ho, narrow-head)) ht ∙ rw absent-head })
+      let sum = add-holds (4 * size) (6 * size) (r .bottleneck) m _ _ w0 w1 s1 (omega (arith, fits .bottleneck-in, fits .work-in)) acc′ g in (
+        skip f1 11 (omega arith) (λ t. rw absent-site) (skip f1 3 (omega arith) (λ t. rw absent-head) u1),
+        record { is = λ o t ho ht. sum .is o t (omega (arith, ho, narrow-head)) ht ∙ rw absent-head },
+      )
 
   pub bare-head : Headed a r start weights size m w0 h0 p0 w1 h0 p0
   bare-head = record {
@@ -389,9 +390,10 @@ module _ {a : ArrayRecord} {r : LayerRecord} {start : Place} {weights : List Flo
       let q2 = s2 .by x c s (λ t. convolved (head1x1Of a r) (W 3) (head1x1′ a r W (M t) (x t) (c t))) (q1 .0) (wide (head-sides .1 ∙ sym site-wide) (q1 .1)) in
       let acc2 : Holds (4 * size) (r .«head1x1_width») m (λ o t. h t o) w2 =
       wide (sym wide-head) (holds-free (two-leave .others) (λ i lo hi. omega (arith, hi, fits .head-in)) acc) in
-      let sum = add-holds (4 * size) (12 * size) (r .«head1x1_width») m _ _ w2 w3 s3 (omega (arith, fits .head1x1-in, head-fits .work-in)) acc2 (wide site-wide (q2 .1)) in
-      (under-way-on head-fits (add-kept w2 w3 head-fits (4 * size) (r .«head1x1_width») _ (fits .head1x1-in) s3) (λ i k. omega (arith, k)) (q2 .0),
-      record { is = λ o t ho ht. sum .is o t (omega (arith, ho, wide-head)) ht ∙ rw head-there })
+      let sum = add-holds (4 * size) (12 * size) (r .«head1x1_width») m _ _ w2 w3 s3 (omega (arith, fits .head1x1-in, head-fits .work-in)) acc2 (wide site-wide (q2 .1)) in (
+        under-way-on head-fits (add-kept w2 w3 head-fits (4 * size) (r .«head1x1_width») _ (fits .head1x1-in) s3) (λ i k. omega (arith, k)) (q2 .0),
+        record { is = λ o t ho ht. sum .is o t (omega (arith, ho, wide-head)) ht ∙ rw head-there },
+      )
 
   pub head-is : Headed a r start weights size m w0 h0 p0 w3 h2 p2
   head-is = record {
@@ -417,9 +419,10 @@ module _ {a : ArrayRecord} {r : LayerRecord} {start : Place} {weights : List Flo
   bare-signal : (x c : ℕ → ℕ → Float) (s : ℕ → Memory) → UnderWay a r start weights size m x c s 10 w0 h0 p0 → Holds (6 * size) (r .bottleneck) m (λ o t. gated a r (slotWeights a r start weights) (memoriesAt a r start weights x c s t) (x t) (c t) o) w0
       → UnderWay a r start weights size m x c s 12 w0 h0 p0 × Holds (2 * size) (a .channels) m (λ o t. signal a r (slotWeights a r start weights) (memoriesAt a r start weights x c s t) (x t) (c t) o) w0
   unfolding memoriesAt after layer1x1′ site′ pushed signal
-  bare-signal x c s u g =
-      (skip fits 10 (omega arith) (λ t. rw absent-six) (skip fits 2 (omega arith) (λ t. rw absent-layer) u),
-      holds-as (u .input) (λ o t ho ht. rw absent-layer))
+  bare-signal x c s u g = (
+    skip fits 10 (omega arith) (λ t. rw absent-six) (skip fits 2 (omega arith) (λ t. rw absent-layer) u),
+    holds-as (u .input) (λ o t ho ht. rw absent-layer),
+  )
 
   pub bare-residual : Residual a r start weights size m w0 h0 p0 w0 h0 p0 (2 * size)
   bare-residual = record { by = bare-signal; result-in = inl refl; leaves = only-work fits free-self }
@@ -454,9 +457,10 @@ module _ {a : ArrayRecord} {r : LayerRecord} {start : Place} {weights : List Flo
       let M : ℕ → ℕ → Memory = memoriesAt a r start weights x c s in
       let q1 = s1 .by x c s (λ t. gated a r W (M t) (x t) (c t)) u (wide (sym (layer-sides .0)) g) (λ t. refl) in
       let q2 = s2 .by x c s (λ t. convolved (layer1x1Of a r) (W 2) (layer1x1′ a r W (M t) (x t) (c t))) (q1 .0) (wide (layer-sides .1) (q1 .1)) in
-      let sum = add-holds (13 * size) (2 * size) (a .channels) m _ _ w2 w3 s3 (omega (arith, fits .channels-in, layer-fits .work-in)) (q2 .1) (q2 .0 .input) in
-      (under-way-on layer-fits (add-kept w2 w3 layer-fits (13 * size) (a .channels) _ (fits .channels-in) s3) (λ i k. omega (arith, k)) (q2 .0),
-      holds-as sum (λ o t ho ht. rw layer-there))
+      let sum = add-holds (13 * size) (2 * size) (a .channels) m _ _ w2 w3 s3 (omega (arith, fits .channels-in, layer-fits .work-in)) (q2 .1) (q2 .0 .input) in (
+        under-way-on layer-fits (add-kept w2 w3 layer-fits (13 * size) (a .channels) _ (fits .channels-in) s3) (λ i k. omega (arith, k)) (q2 .0),
+        holds-as sum (λ o t ho ht. rw layer-there),
+      )
 
   pub residual-is : Residual a r start weights size m w0 h0 p0 w3 h2 p2 (13 * size)
   residual-is = record {

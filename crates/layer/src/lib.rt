@@ -1,11 +1,14 @@
 // Carries layer.rs: one layer over a block of columns. Document 01, 'The recurrence' (Layer).
 ghost use lib.ListN.{length};
 ghost use Rattle.layer.specs.Layered.{LayerFits, Layered};
-pub mod slots;
-pub mod sites;
+
 pub mod pieces;
+pub mod sites;
+pub mod slots;
+
 use description::places::Place;
-use description::records::{ArrayRecord, LayerRecord};
+use description::records::ArrayRecord;
+use description::records::LayerRecord;
 
 // m columns through the layer whose numbers start at `start`. Of the regions of `size` numbers in `work`, 2 holds the input, 3 the condition and 4 the
 // accumulator, which is added to; the answer says where the layer's output is.

@@ -5,10 +5,13 @@ ghost use lib.ListN.{length};
 ghost use Rattle.layer.specs.Layered.{LayerFits};
 ghost use Rattle.layer.specs.Slots.{SlotsOf};
 ghost use Rattle.layer.specs.Pieces.{Fronted, Mixed, GatedPast, Headed, Residual};
-use crate::sites::{convolve, modulate, modulated};
+use crate::sites::convolve;
+use crate::sites::modulate;
+use crate::sites::modulated;
 use crate::slots::Slots;
 use description::parts::doubled;
-use description::records::{ArrayRecord, LayerRecord};
+use description::records::ArrayRecord;
+use description::records::LayerRecord;
 
 // Conv input = site 0 or the input; conv; site 1.
 pub fn front(
@@ -32,9 +35,49 @@ pub fn front(
     let input = 2 * size;
     let spare = 5 * size;
     let to = 7 * size;
-    let from = modulated(work, histories, positions, weights, a, r, slots, 0, input, spare, channels, size, m);
-    convolve(work, histories, positions, weights, a, r, slots, 0, from, to, size, m);
-    modulate(work, histories, positions, weights, a, r, slots, 1, to, mid, size, m);
+    let from = modulated(
+        work,
+        histories,
+        positions,
+        weights,
+        a,
+        r,
+        slots,
+        0,
+        input,
+        spare,
+        channels,
+        size,
+        m,
+    );
+    convolve(
+        work,
+        histories,
+        positions,
+        weights,
+        a,
+        r,
+        slots,
+        0,
+        from,
+        to,
+        size,
+        m,
+    );
+    modulate(
+        work,
+        histories,
+        positions,
+        weights,
+        a,
+        r,
+        slots,
+        1,
+        to,
+        mid,
+        size,
+        m,
+    );
 }
 
 // Mixin input = site 2 of the condition or the condition; mixin; site 3.
@@ -59,9 +102,49 @@ pub fn mixer(
     let condition = 3 * size;
     let spare = 5 * size;
     let to = 8 * size;
-    let from = modulated(work, histories, positions, weights, a, r, slots, 2, condition, spare, width, size, m);
-    convolve(work, histories, positions, weights, a, r, slots, 1, from, to, size, m);
-    modulate(work, histories, positions, weights, a, r, slots, 3, to, mid, size, m);
+    let from = modulated(
+        work,
+        histories,
+        positions,
+        weights,
+        a,
+        r,
+        slots,
+        2,
+        condition,
+        spare,
+        width,
+        size,
+        m,
+    );
+    convolve(
+        work,
+        histories,
+        positions,
+        weights,
+        a,
+        r,
+        slots,
+        1,
+        from,
+        to,
+        size,
+        m,
+    );
+    modulate(
+        work,
+        histories,
+        positions,
+        weights,
+        a,
+        r,
+        slots,
+        3,
+        to,
+        mid,
+        size,
+        m,
+    );
 }
 
 // z = conv + mixin; site 4; gating; site 5.
@@ -87,12 +170,38 @@ pub fn gate(
     let z = 7 * size;
     let mixed = 8 * size;
     carry::add_to(work, z, mixed, mid * m);
-    modulate(work, histories, positions, weights, a, r, slots, 4, z, mid, size, m);
+    modulate(
+        work,
+        histories,
+        positions,
+        weights,
+        a,
+        r,
+        slots,
+        4,
+        z,
+        mid,
+        size,
+        m,
+    );
     let mode = r.mode;
     let primary = r.primary;
     let secondary = r.secondary;
     gating::gating(work, to, z, bottleneck * m, mode, primary, secondary);
-    modulate(work, histories, positions, weights, a, r, slots, 5, to, bottleneck, size, m);
+    modulate(
+        work,
+        histories,
+        positions,
+        weights,
+        a,
+        r,
+        slots,
+        5,
+        to,
+        bottleneck,
+        size,
+        m,
+    );
 }
 
 // Head1x1 then site 7, or the gated values; add to the head accumulator, accumulator first.
@@ -121,8 +230,34 @@ pub fn head(
         return;
     }
     let to = 12 * size;
-    convolve(work, histories, positions, weights, a, r, slots, 3, from, to, size, m);
-    modulate(work, histories, positions, weights, a, r, slots, 7, to, width, size, m);
+    convolve(
+        work,
+        histories,
+        positions,
+        weights,
+        a,
+        r,
+        slots,
+        3,
+        from,
+        to,
+        size,
+        m,
+    );
+    modulate(
+        work,
+        histories,
+        positions,
+        weights,
+        a,
+        r,
+        slots,
+        7,
+        to,
+        width,
+        size,
+        m,
+    );
     carry::add_to(work, accumulator, to, width * m);
 }
 
@@ -150,8 +285,34 @@ pub fn residual(
     let channels = a.channels;
     let from = 6 * size;
     let to = 13 * size;
-    convolve(work, histories, positions, weights, a, r, slots, 2, from, to, size, m);
-    modulate(work, histories, positions, weights, a, r, slots, 6, to, channels, size, m);
+    convolve(
+        work,
+        histories,
+        positions,
+        weights,
+        a,
+        r,
+        slots,
+        2,
+        from,
+        to,
+        size,
+        m,
+    );
+    modulate(
+        work,
+        histories,
+        positions,
+        weights,
+        a,
+        r,
+        slots,
+        6,
+        to,
+        channels,
+        size,
+        m,
+    );
     carry::add_to(work, to, input, channels * m);
     to
 }

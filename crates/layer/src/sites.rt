@@ -10,8 +10,10 @@ ghost use Rattle.layer.specs.Layered.{LayerFits};
 ghost use Rattle.layer.specs.Slots.{SlotsOf};
 ghost use Rattle.layer.specs.Pieces.{Behind, Room, SitePast, ConvPast};
 use crate::slots::Slots;
-use description::parts::{Part, slot};
-use description::records::{ArrayRecord, LayerRecord};
+use description::parts::Part;
+use description::parts::slot;
+use description::records::ArrayRecord;
+use description::records::LayerRecord;
 use gating::Mode;
 
 // Whether site i has shifts.
@@ -74,7 +76,18 @@ pub fn convolve(
     };
     let at = slots.place(k);
     let rows = 11 * size;
-    slot::play(work, histories, positions, weights, from, to, rows, sh, at, m);
+    slot::play(
+        work,
+        histories,
+        positions,
+        weights,
+        from,
+        to,
+        rows,
+        sh,
+        at,
+        m,
+    );
 }
 
 // FiLM site i in place: w channels at `to`. Regions 9 to 11 are used up.
@@ -106,7 +119,20 @@ pub fn modulate(
     let rows = 11 * size;
     let width = a.condition;
     slot::site_in(
-        work, histories, positions, weights, condition, to, s, rows, part, at, with_shift, w, width, m,
+        work,
+        histories,
+        positions,
+        weights,
+        condition,
+        to,
+        s,
+        rows,
+        part,
+        at,
+        with_shift,
+        w,
+        width,
+        m,
     );
 }
 
@@ -140,6 +166,20 @@ pub fn modulated(
     let rows = 11 * size;
     let width = a.condition;
     slot::site_to(
-        work, histories, positions, weights, condition, from, to, s, rows, part, at, with_shift, w, width, m,
+        work,
+        histories,
+        positions,
+        weights,
+        condition,
+        from,
+        to,
+        s,
+        rows,
+        part,
+        at,
+        with_shift,
+        w,
+        width,
+        m,
     )
 }

@@ -8,7 +8,8 @@ ghost use Rattle.layer.specs.Layered.{slotPlace};
 ghost use Rattle.layer.specs.Slots.{placeIn, SlotsOf};
 use description::parts::slot;
 use description::places::Place;
-use description::records::{ArrayRecord, LayerRecord};
+use description::records::ArrayRecord;
+use description::records::LayerRecord;
 
 // Where the numbers of a layer's slots start, and where those of the next layer do.
 pub struct Slots {

@@ -9,25 +9,25 @@ slots-from-requires : tie.Need-slots-from-requires
 slots-from-requires c κs = (c .before .before .before .before .pre .array, (c .before .before .before .before .pre .layer, layer-low (c .before .before .before .before .pre)))
 
 front-requires : tie.Need-front-requires
-front-requires c κs = 
+front-requires c κs =
     let f0 = rw (← c .before .before .before .slots-from .ensures .0) at (c .before .before .before .before .before .before .before .before .pre) in
     (f0, c .before .before .before .slots-from .ensures .1)
 
 mixer-requires : tie.Need-mixer-requires
-mixer-requires c κs = 
+mixer-requires c κs =
     let f0 = rw (← c .before .before .before .before .before .before .before .before .before .before .before .before .before .slots-from .ensures .0) at (c .before .before .before .before .before .before .before .before .before .before .before .before .before .before .before .before .before .before .pre) in
     let f1 = fits-on f0 (c .before .before .before .before .before .before .before .before .before .front .ensures .leaves) in
     (f1, c .before .before .before .before .before .before .before .before .before .before .before .before .before .slots-from .ensures .1)
 
 gate-requires : tie.Need-gate-requires
-gate-requires c κs = 
+gate-requires c κs =
     let f0 = rw (← c .before .before .before .before .before .before .before .before .before .before .before .before .before .before .before .before .before .before .before .before .before .before .before .slots-from .ensures .0) at (c .before .before .before .before .before .before .before .before .before .before .before .before .before .before .before .before .before .before .before .before .before .before .before .before .before .before .before .before .pre) in
     let f1 = fits-on f0 (c .before .before .before .before .before .before .before .before .before .before .before .before .before .before .before .before .before .before .before .front .ensures .leaves) in
     let f2 = fits-on f1 (c .before .before .before .before .before .before .before .before .before .mixer .ensures .leaves) in
     (f2, c .before .before .before .before .before .before .before .before .before .before .before .before .before .before .before .before .before .before .before .before .before .before .before .slots-from .ensures .1)
 
 head-requires : tie.Need-head-requires
-head-requires c κs = 
+head-requires c κs =
     let f0 = rw (← c .before .before .before .before .before .before .before .before .before .before .before .before .before .before .before .before .before .before .before .before .before .before .before .before .before .before .before .before .before .before .before .before .before .slots-from .ensures .0) at (c .before .before .before .before .before .before .before .before .before .before .before .before .before .before .before .before .before .before .before .before .before .before .before .before .before .before .before .before .before .before .before .before .before .before .before .before .before .before .pre) in
     let f1 = fits-on f0 (c .before .before .before .before .before .before .before .before .before .before .before .before .before .before .before .before .before .before .before .before .before .before .before .before .before .before .before .before .before .front .ensures .leaves) in
     let f2 = fits-on f1 (c .before .before .before .before .before .before .before .before .before .before .before .before .before .before .before .before .before .before .before .mixer .ensures .leaves) in
@@ -35,7 +35,7 @@ head-requires c κs =
     (f3, c .before .before .before .before .before .before .before .before .before .before .before .before .before .before .before .before .before .before .before .before .before .before .before .before .before .before .before .before .before .before .before .before .before .slots-from .ensures .1)
 
 residual-requires : tie.Need-residual-requires
-residual-requires c κs = 
+residual-requires c κs =
     let f0 = rw (← c .before .before .before .before .before .before .before .before .before .before .before .before .before .before .before .before .before .before .before .before .before .before .before .before .before .before .before .before .before .before .before .before .before .before .before .before .before .before .before .before .before .before .before .slots-from .ensures .0) at (c .before .before .before .before .before .before .before .before .before .before .before .before .before .before .before .before .before .before .before .before .before .before .before .before .before .before .before .before .before .before .before .before .before .before .before .before .before .before .before .before .before .before .before .before .before .before .before .before .pre) in
     let f1 = fits-on f0 (c .before .before .before .before .before .before .before .before .before .before .before .before .before .before .before .before .before .before .before .before .before .before .before .before .before .before .before .before .before .before .before .before .before .before .before .before .before .before .before .front .ensures .leaves) in
     let f2 = fits-on f1 (c .before .before .before .before .before .before .before .before .before .before .before .before .before .before .before .before .before .before .before .before .before .before .before .before .before .before .before .before .before .mixer .ensures .leaves) in
@@ -53,7 +53,7 @@ same-length-3 : tie.Need-same-length-3
 same-length-3 c = c .before .before .before .before .before .before .residual .ensures .leaves .positions-kept .long ∙ c .before .before .before .before .before .before .before .before .before .before .before .before .before .before .before .before .head .ensures .leaves .positions-kept .long ∙ c .before .before .before .before .before .before .before .before .before .before .before .before .before .before .before .before .before .before .before .before .before .before .before .before .before .before .gate .ensures .leaves .positions-kept .long ∙ c .before .before .before .before .before .before .before .before .before .before .before .before .before .before .before .before .before .before .before .before .before .before .before .before .before .before .before .before .before .before .before .before .before .before .before .before .mixer .ensures .leaves .positions-kept .long ∙ c .before .before .before .before .before .before .before .before .before .before .before .before .before .before .before .before .before .before .before .before .before .before .before .before .before .before .before .before .before .before .before .before .before .before .before .before .before .before .before .before .before .before .before .before .before .before .front .ensures .leaves .positions-kept .long
 
 returns : tie.Need-returns
-returns c = 
+returns c =
     let f0 = rw (← c .before .before .before .before .before .before .before .before .before .before .before .before .before .before .before .before .before .before .before .before .before .before .before .before .before .before .before .before .before .before .before .before .before .before .before .before .before .before .before .before .before .before .before .before .before .before .before .before .before .before .slots-from .ensures .0) at (c .before .before .before .before .before .before .before .before .before .before .before .before .before .before .before .before .before .before .before .before .before .before .before .before .before .before .before .before .before .before .before .before .before .before .before .before .before .before .before .before .before .before .before .before .before .before .before .before .before .before .before .before .before .before .before .pre) in
     rw (c .before .before .before .before .before .before .before .before .before .before .before .before .before .before .before .before .before .before .before .before .before .before .before .before .before .before .before .before .before .before .before .before .before .before .before .before .before .before .before .before .before .before .before .before .before .before .before .before .before .before .slots-from .ensures .0) at (layer-is f0 (c .before .before .before .before .before .before .before .before .before .before .before .before .before .before .before .before .before .before .before .before .before .before .before .before .before .before .before .before .before .before .before .before .before .before .before .before .before .before .before .before .before .before .before .before .before .before .front .ensures) (c .before .before .before .before .before .before .before .before .before .before .before .before .before .before .before .before .before .before .before .before .before .before .before .before .before .before .before .before .before .before .before .before .before .before .before .before .mixer .ensures) (c .before .before .before .before .before .before .before .before .before .before .before .before .before .before .before .before .before .before .before .before .before .before .before .before .before .before .gate .ensures) (c .before .before .before .before .before .before .before .before .before .before .before .before .before .before .before .before .head .ensures) (c .before .before .before .before .before .before .residual .ensures))
 

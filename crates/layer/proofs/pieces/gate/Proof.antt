@@ -21,18 +21,18 @@ mul-mixed : tie.Need-mul-mixed
 mul-mixed c = search needs
 
 mul-add-to : tie.Need-mul-add-to
-mul-add-to c = 
+mul-add-to c =
     let e = ap (λ (n : ℕ). n * c .before .before .before .before .before .before .args .m) (c .before .doubled .ensures) in
     record { fits = omega (arith, e, c .before .before .before .before .before .before .pre .0 .mid-in, c .before .before .before .before .before .before .pre .0 .work-in, c .before .before .before .before .before .before .pre .0 .small) }
 
 add-to-requires : tie.Need-add-to-requires
-add-to-requires c κs = 
+add-to-requires c κs =
     let e = ap (λ (n : ℕ). n * c .before .before .before .before .before .before .args .m) (c .before .doubled .ensures) in
     (omega (arith, e, c .before .before .before .before .before .before .pre .0 .mid-in, c .before .before .before .before .before .before .pre .0 .work-in), omega (arith, e, c .before .before .before .before .before .before .pre .0 .mid-in, c .before .before .before .before .before .before .pre .0 .work-in), omega (arith, e, c .before .before .before .before .before .before .pre .0 .mid-in))
 
 modulate-requires : tie.Need-modulate-requires
 unfolding siteWidth
-modulate-requires c κs = 
+modulate-requires c κs =
     let n = c .before .before .before .before .before .before .before .before .before .before .before .before .args .size in
     let f = c .before .before .before .before .before .before .before .before .before .before .before .before .pre .0 in
     let sum = rw (c .before .before .before .before .before .before .before .doubled .ensures) at (c .before .before .before .before .before .add-to .ensures) in
@@ -43,7 +43,7 @@ mul-gating : tie.Need-mul-gating
 mul-gating c = record { fits = omega (arith, c .before .before .before .before .before .before .before .before .before .before .before .before .before .before .before .before .before .before .before .before .pre .0 .bottleneck-in, c .before .before .before .before .before .before .before .before .before .before .before .before .before .before .before .before .before .before .before .before .pre .0 .work-in, c .before .before .before .before .before .before .before .before .before .before .before .before .before .before .before .before .before .before .before .before .pre .0 .small) }
 
 gating-requires : tie.Need-gating-requires
-gating-requires c κs = 
+gating-requires c κs =
     let n = c .before .before .before .before .before .before .before .before .before .before .before .before .before .before .before .before .before .before .before .before .args .size in
     let f = c .before .before .before .before .before .before .before .before .before .before .before .before .before .before .before .before .before .before .before .before .pre .0 in
     let sum = rw (c .before .before .before .before .before .before .before .before .before .before .before .before .before .before .before .doubled .ensures) at (c .before .before .before .before .before .before .before .before .before .before .before .before .before .add-to .ensures) in
@@ -52,7 +52,7 @@ gating-requires c κs =
 
 modulate-requires-2 : tie.Need-modulate-requires-2
 unfolding siteWidth
-modulate-requires-2 c κs = 
+modulate-requires-2 c κs =
     let n = c .before .before .before .before .before .before .before .before .before .before .before .before .before .before .before .before .before .before .before .before .before .before .before .before .before .before .args .size in
     let f = c .before .before .before .before .before .before .before .before .before .before .before .before .before .before .before .before .before .before .before .before .before .before .before .before .before .before .pre .0 in
     let sum = rw (c .before .before .before .before .before .before .before .before .before .before .before .before .before .before .before .before .before .before .before .before .before .doubled .ensures) at (c .before .before .before .before .before .before .before .before .before .before .before .before .before .before .before .before .before .before .before .add-to .ensures) in
@@ -70,7 +70,7 @@ same-length-3 : tie.Need-same-length-3
 same-length-3 c = c .before .before .before .before .before .before .modulate2 .ensures .leaves .positions-kept .long ∙ c .before .before .before .before .before .before .before .before .before .before .before .before .before .before .before .before .before .before .before .before .modulate .ensures .leaves .positions-kept .long
 
 returns : tie.Need-returns
-returns c = 
+returns c =
     let sum = rw (c .before .before .before .before .before .before .before .before .before .before .before .before .before .before .before .before .before .before .before .before .before .before .before .before .before .before .before .before .doubled .ensures) at (c .before .before .before .before .before .before .before .before .before .before .before .before .before .before .before .before .before .before .before .before .before .before .before .before .before .before .add-to .ensures) in
     gate-is _ _ _ _ _ (c .before .before .before .before .before .before .before .before .before .before .before .before .before .before .before .before .before .before .before .before .before .before .before .before .before .before .before .before .before .before .before .before .before .pre .0) sum (c .before .before .before .before .before .before .before .before .before .before .before .before .before .before .before .before .before .before .before .before .modulate .ensures) (c .before .before .before .before .before .before .before .before .before .before .before .before .gating .ensures) (c .before .before .before .before .before .before .modulate2 .ensures)
 

@@ -16,7 +16,7 @@ mul-add-to : tie.Need-mul-add-to
 mul-add-to c = record { fits = omega (arith, c .before .before .before .before .before .before .pre .0 .bottleneck-in, c .before .before .before .before .before .before .pre .0 .work-in, c .before .before .before .before .before .before .pre .0 .small) }
 
 add-to-requires : tie.Need-add-to-requires
-add-to-requires c κs = 
+add-to-requires c κs =
     let f = c .before .before .before .before .before .before .pre .0 in
     (omega (arith, f .bottleneck-in, f .work-in), omega (arith, f .bottleneck-in, f .work-in), omega (arith, f .bottleneck-in))
 
@@ -39,7 +39,7 @@ mul-add-to-2 : tie.Need-mul-add-to-2
 mul-add-to-2 c = record { fits = omega (arith, c .before .before .before .before .before .before .before .before .before .before .before .before .before .before .before .before .before .before .before .before .before .before .before .before .before .before .pre .0 .head1x1-in, c .before .before .before .before .before .before .before .before .before .before .before .before .before .before .before .before .before .before .before .before .before .before .before .before .before .before .pre .0 .work-in, c .before .before .before .before .before .before .before .before .before .before .before .before .before .before .before .before .before .before .before .before .before .before .before .before .before .before .pre .0 .small) }
 
 add-to-requires-2 : tie.Need-add-to-requires-2
-add-to-requires-2 c κs = 
+add-to-requires-2 c κs =
     let f = fits-on (fits-on (c .before .before .before .before .before .before .before .before .before .before .before .before .before .before .before .before .before .before .before .before .before .before .before .before .before .before .pre .0) (c .before .before .before .before .before .before .before .before .before .before .before .before .before .before .before .before .before .convolve .ensures .leaves)) (c .before .before .before .before .before .before .before .modulate .ensures .leaves) in
     (omega (arith, f .head1x1-in, f .work-in), omega (arith, f .head1x1-in, f .work-in), omega (arith, f .head1x1-in))
 

@@ -30,7 +30,7 @@ mul-add-to : tie.Need-mul-add-to
 mul-add-to c = record { fits = omega (arith, c .before .before .before .before .before .before .before .before .before .before .before .before .before .before .before .before .before .before .before .before .before .before .before .before .before .before .before .pre .0 .channels-in, c .before .before .before .before .before .before .before .before .before .before .before .before .before .before .before .before .before .before .before .before .before .before .before .before .before .before .before .pre .0 .work-in, c .before .before .before .before .before .before .before .before .before .before .before .before .before .before .before .before .before .before .before .before .before .before .before .before .before .before .before .pre .0 .small) }
 
 add-to-requires : tie.Need-add-to-requires
-add-to-requires c κs = 
+add-to-requires c κs =
     let f = fits-on (fits-on (c .before .before .before .before .before .before .before .before .before .before .before .before .before .before .before .before .before .before .before .before .before .before .before .before .before .before .before .pre .0) (c .before .before .before .before .before .before .before .before .before .before .before .before .before .before .before .before .before .convolve .ensures .leaves)) (c .before .before .before .before .before .before .before .modulate .ensures .leaves) in
     (omega (arith, f .channels-in, f .work-in), omega (arith, f .channels-in, f .work-in), omega (arith, f .channels-in))
 

@@ -26,7 +26,7 @@ mul-rows : tie.Need-mul-rows
 mul-rows c = search needs
 
 play-requires : tie.Need-play-requires
-play-requires c κs = 
+play-requires c κs =
     let e = c .before .before .before .place .ensures ∙ c .before .before .before .before .before .before .before .before .before .before .before .before .pre .1 .0 .is _ (omega (arith, c .before .before .before .before .before .before .before .before .before .before .before .before .pre .1 .1 .0)) in
     rw e (conv-fits (c .before .before .before .before .before .before .before .before .before .before .before .before .pre .0) _ (c .before .before .before .before .before .before .before .before .before .before .before .before .pre .1 .1 .0) _ (sym (c .before .before .before .before .before .before .before .slot .ensures) ∙ c .before .before .before .before .before .sh .given .1) _ _ (c .before .before .before .before .before .before .before .before .before .before .before .before .pre .1 .1 .1) (c .before .before .before .before .before .before .before .before .before .before .before .before .pre .1 .1 .2) (c .before .before .before .before .before .before .before .before .before .before .before .before .pre .1 .1 .3))
 
@@ -40,7 +40,7 @@ same-length-3 : tie.Need-same-length-3
 same-length-3 c = search needs
 
 returns-2 : tie.Need-returns-2
-returns-2 c = 
+returns-2 c =
     let e = c .before .before .before .before .before .before .before .before .before .before .place .ensures ∙ c .before .before .before .before .before .before .before .before .before .before .before .before .before .before .before .before .before .before .before .pre .1 .0 .is _ (omega (arith, c .before .before .before .before .before .before .before .before .before .before .before .before .before .before .before .before .before .before .before .pre .1 .1 .0)) in
     conv-past (c .before .before .before .before .before .before .before .before .before .before .before .before .before .before .before .before .before .before .before .pre .0) _ (c .before .before .before .before .before .before .before .before .before .before .before .before .before .before .before .before .before .before .before .pre .1 .1 .0) (c .before .before .before .before .before .before .before .before .before .before .before .before .before .before .before .before .before .before .before .pre .1 .1 .1 .past) _ (sym (c .before .before .before .before .before .before .before .before .before .before .before .before .before .before .slot .ensures) ∙ c .before .before .before .before .before .before .before .before .before .before .before .before .sh .given .1) (rw e at (c .before .before .before .before .before .before .play .ensures))
 

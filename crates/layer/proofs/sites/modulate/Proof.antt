@@ -29,7 +29,7 @@ mul-rows : tie.Need-mul-rows
 mul-rows c = search needs
 
 site-in-requires : tie.Need-site-in-requires
-site-in-requires c κs = 
+site-in-requires c κs =
     let p = c .before .before .before .before .before .applied-site .ensures in
     let b = c .before .before .before .before .shifted .ensures in
     let e = c .before .before .before .place .ensures ∙ c .before .before .before .before .before .before .before .before .before .before .pre .1 .0 .is _ (omega (arith, c .before .before .before .before .before .before .before .before .before .before .pre .1 .1 .0 .site-in)) in
@@ -47,7 +47,7 @@ same-length-3 : tie.Need-same-length-3
 same-length-3 c = search needs
 
 returns : tie.Need-returns
-returns c = 
+returns c =
     let p = c .before .before .before .before .before .before .before .before .before .before .before .before .applied-site .ensures in
     let b = c .before .before .before .before .before .before .before .before .before .before .before .shifted .ensures in
     let e = c .before .before .before .before .before .before .before .before .before .before .place .ensures ∙ c .before .before .before .before .before .before .before .before .before .before .before .before .before .before .before .before .before .pre .1 .0 .is _ (omega (arith, c .before .before .before .before .before .before .before .before .before .before .before .before .before .before .before .before .before .pre .1 .1 .0 .site-in)) in

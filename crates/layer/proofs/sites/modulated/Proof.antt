@@ -29,17 +29,20 @@ mul-rows : tie.Need-mul-rows
 mul-rows c = search needs
 
 site-to-requires : tie.Need-site-to-requires
-site-to-requires c κs = 
+site-to-requires c κs =
     let p = c .before .before .before .before .before .applied-site .ensures in
     let b = c .before .before .before .before .shifted .ensures in
     let e = c .before .before .before .place .ensures ∙ c .before .before .before .before .before .before .before .before .before .before .pre .1 .0 .is _ (omega (arith, c .before .before .before .before .before .before .before .before .before .before .pre .1 .1 .0 .site-in)) in
     let w = c .before .before .before .before .before .before .before .before .before .before .pre .1 .1 .2 in
     let room = c .before .before .before .before .before .before .before .before .before .before .pre .1 .1 .1 in
     let f = c .before .before .before .before .before .before .before .before .before .before .pre .0 in
-    let i = c .before .before .before .before .before .before .before .before .before .before .pre .1 .1 .0 .site-in in
-    (rw (p, b, e, w) (site-fits f _ i _ (room .end) (room .beside)),
-    (rw (p, b, e, w) (site-fits f _ i _ (omega (arith, c .before .before .before .before .before .before .before .before .before .before .pre .1 .1 .3, c .before .before .before .before .before .before .before .before .before .before .pre .1 .1 .4)) (omega (arith, c .before .before .before .before .before .before .before .before .before .before .pre .1 .1 .3, c .before .before .before .before .before .before .before .before .before .before .pre .1 .1 .4))),
-    rw w (omega (arith, width-in f _ i, c .before .before .before .before .before .before .before .before .before .before .pre .1 .1 .3))))
+    let i = c .before .before .before .before .before .before .before .before .before .before .pre .1 .1 .0 .site-in in (
+      rw (p, b, e, w) (site-fits f _ i _ (room .end) (room .beside)),
+      (
+        rw (p, b, e, w) (site-fits f _ i _ (omega (arith, c .before .before .before .before .before .before .before .before .before .before .pre .1 .1 .3, c .before .before .before .before .before .before .before .before .before .before .pre .1 .1 .4)) (omega (arith, c .before .before .before .before .before .before .before .before .before .before .pre .1 .1 .3, c .before .before .before .before .before .before .before .before .before .before .pre .1 .1 .4))),
+        rw w (omega (arith, width-in f _ i, c .before .before .before .before .before .before .before .before .before .before .pre .1 .1 .3)),
+      ),
+    )
 
 same-length : tie.Need-same-length
 same-length c = search needs
@@ -51,7 +54,7 @@ same-length-3 : tie.Need-same-length-3
 same-length-3 c = search needs
 
 returns : tie.Need-returns
-returns c = 
+returns c =
     let p = c .before .before .before .before .before .before .before .before .before .before .before .before .applied-site .ensures in
     let b = c .before .before .before .before .before .before .before .before .before .before .before .shifted .ensures in
     let e = c .before .before .before .before .before .before .before .before .before .before .place .ensures ∙ c .before .before .before .before .before .before .before .before .before .before .before .before .before .before .before .before .before .pre .1 .0 .is _ (omega (arith, c .before .before .before .before .before .before .before .before .before .before .before .before .before .before .before .before .before .pre .1 .1 .0 .site-in)) in

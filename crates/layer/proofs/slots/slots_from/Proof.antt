@@ -42,9 +42,11 @@ next-requires-12 : tie.Need-next-requires-12
 next-requires-12 c κs = (c .before .before .before .before .before .before .before .before .before .before .before .pre .0, (c .before .before .before .before .before .before .before .before .before .before .before .pre .1 .0, (c .before .before .before .before .before .before .before .before .before .before .before .pre .1 .1, (omega arith, c .next11 .ensures))))
 
 returns : tie.Need-returns
-returns c = 
-    (refl, slots-of _ _ (c .before .before .before .before .before .before .before .before .before .before .before .before .args .start) _ refl (c .before .before .before .before .before .before .before .before .before .before .before .next .ensures) (c .before .before .before .before .before .before .before .before .before .before .next2 .ensures) (c .before .before .before .before .before .before .before .before .before .next3 .ensures) (c .before .before .before .before .before .before .before .before .next4 .ensures) (c .before .before .before .before .before .before .before .next5 .ensures) (c .before .before .before .before .before .before .next6 .ensures) (c .before .before .before .before .before .next7 .ensures) (c .before .before .before .before .next8 .ensures) (c .before .before .before .next9 .ensures) (c .before .before .next10 .ensures) (c .before .next11 .ensures) (c .next12 .ensures),
-    slots-end _ _ (c .before .before .before .before .before .before .before .before .before .before .before .before .args .start) _ refl (c .before .before .before .before .before .before .before .before .before .before .before .next .ensures) (c .before .before .before .before .before .before .before .before .before .before .next2 .ensures) (c .before .before .before .before .before .before .before .before .before .next3 .ensures) (c .before .before .before .before .before .before .before .before .next4 .ensures) (c .before .before .before .before .before .before .before .next5 .ensures) (c .before .before .before .before .before .before .next6 .ensures) (c .before .before .before .before .before .next7 .ensures) (c .before .before .before .before .next8 .ensures) (c .before .before .before .next9 .ensures) (c .before .before .next10 .ensures) (c .before .next11 .ensures) (c .next12 .ensures))
+returns c = (
+  refl,
+  slots-of _ _ (c .before .before .before .before .before .before .before .before .before .before .before .before .args .start) _ refl (c .before .before .before .before .before .before .before .before .before .before .before .next .ensures) (c .before .before .before .before .before .before .before .before .before .before .next2 .ensures) (c .before .before .before .before .before .before .before .before .before .next3 .ensures) (c .before .before .before .before .before .before .before .before .next4 .ensures) (c .before .before .before .before .before .before .before .next5 .ensures) (c .before .before .before .before .before .before .next6 .ensures) (c .before .before .before .before .before .next7 .ensures) (c .before .before .before .before .next8 .ensures) (c .before .before .before .next9 .ensures) (c .before .before .next10 .ensures) (c .before .next11 .ensures) (c .next12 .ensures),
+  slots-end _ _ (c .before .before .before .before .before .before .before .before .before .before .before .before .args .start) _ refl (c .before .before .before .before .before .before .before .before .before .before .before .next .ensures) (c .before .before .before .before .before .before .before .before .before .before .next2 .ensures) (c .before .before .before .before .before .before .before .before .before .next3 .ensures) (c .before .before .before .before .before .before .before .before .next4 .ensures) (c .before .before .before .before .before .before .before .next5 .ensures) (c .before .before .before .before .before .before .next6 .ensures) (c .before .before .before .before .before .next7 .ensures) (c .before .before .before .before .next8 .ensures) (c .before .before .before .next9 .ensures) (c .before .before .next10 .ensures) (c .before .next11 .ensures) (c .next12 .ensures),
+)
 
 pub slots-from-spec : {M : Type 1} → statement M
 slots-from-spec =
