@@ -1,2 +1,4 @@
 pub mod Column
 pub mod Layered
+pub mod Slots
+pub mod Pieces
