@@ -2,11 +2,7 @@
 use mathlib.Core.Path.{_≡_}
 use mathlib.Core.Logic.{_⊎_}
 use mathlib.Core.List.{List, []}
-<<<<<<< HEAD
-use Prim.Native.Nat.{ℕ, zero, suc, _+_, _-_, _*_, _≤_, _<_}
-=======
 use Prim.Native.Nat.{ℕ, zero, suc, _+_, _*_, _≤_, _<_}
->>>>>>> layer2
 use lib.ListN.{length, getD, take}
 use lib.Ieee.{Float, nan}
 use Rattle.lists.specs.Region.{Apart, Holds, Free}
@@ -21,10 +17,6 @@ use Rattle.description.specs.Sizes.{weightsOf, historiesOf, positionsOf, total}
 use Rattle.description.specs.Tally.{pastAll}
 use Rattle.description.specs.declared.records.ArrayRecord.{ArrayRecord}
 use Rattle.description.specs.declared.records.LayerRecord.{LayerRecord}
-<<<<<<< HEAD
-use Rattle.description.specs.declared.parts.Part.{Part}
-=======
->>>>>>> layer2
 use Rattle.description.specs.declared.parts.Part.the-variants.{There}
 use Rattle.description.specs.declared.places.Place.{Place}
 use Rattle.slot.specs.View.{weightsIn, memoryIn}
