@@ -10,14 +10,20 @@ fn bias(weights: &[f32], biased: bool, i: usize) -> f32
     if biased { weights[i] } else { 0.0 }
 }
 
+// How many columns back tap k reads.
+fn steps_back(sh: Shape, k: usize) -> usize
+{
+    (sh.kernel - 1 - k) * sh.dilation
+}
+
 // ---- many columns at once: weight by weight, sixteen columns side by side
 
 fn start(work: &mut [f32], weights: &[f32], out: usize, m: usize, n: usize, sh: Shape)
 {
     let outs = sh.outs;
-    let biased = sh.biased;
     let count = sh.kernel_count();
     for o in 0..outs {
+        let biased = sh.biased;
         let b = bias(weights, biased, count + o);
         sums::flat(work, out + o * m, n, b);
     }
@@ -36,12 +42,12 @@ fn tap_group(
     g: usize,
 )
 {
-    let kernel = sh.kernel;
     let ipg = sh.inputs_per_group();
     let opg = sh.outputs_per_group();
     let row = from + g * ipg * stride;
     for i in 0..opg {
         let o = g * opg + i;
+        let kernel = sh.kernel;
         sums::add_row(work, weights, out + o * m, row, stride, n, o * ipg * kernel + k, kernel, ipg);
     }
 }
@@ -78,7 +84,7 @@ fn read_tap(
     k: usize,
 )
 {
-    let back = (sh.kernel - 1 - k) * sh.dilation;
+    let back = steps_back(sh, k);
     if back == 0 {
         tap(work, weights, out, m, x, m, n, sh, k);
     } else {
@@ -150,14 +156,14 @@ fn taps_eight(
 {
     let ins = sh.ins;
     let kernel = sh.kernel;
-    let dilation = sh.dilation;
     let ipg = sh.inputs_per_group();
     let base = g * ipg;
     let between = ipg * kernel;
     let w = o * between;
     let mut r = sums;
     for k in 0..kernel {
-        let column = ring.back((kernel - 1 - k) * dilation);
+        let back = steps_back(sh, k);
+        let column = ring.back(back);
         let more = sums::add_outputs(r, history, weights, column * ins + base, w + k, between, kernel, ipg);
         r = more;
     }
@@ -176,13 +182,14 @@ fn taps_one(
 {
     let ins = sh.ins;
     let kernel = sh.kernel;
-    let dilation = sh.dilation;
     let ipg = sh.inputs_per_group();
     let base = g * ipg;
-    let w = o * ipg * kernel;
+    let between = ipg * kernel;
+    let w = o * between;
     let mut r = sum;
     for k in 0..kernel {
-        let column = ring.back((kernel - 1 - k) * dilation);
+        let back = steps_back(sh, k);
+        let column = ring.back(back);
         r = sums::add_output(r, history, weights, column * ins + base, w + k, kernel, ipg);
     }
     r

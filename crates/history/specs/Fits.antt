@@ -4,11 +4,13 @@ use Prim.Native.Nat.{ℕ, _+_, _*_, _≤_, _<_, min, max}
 use Rattle.lists.specs.Region.{Apart}
 
 pub record StoreFits (at len nhistory nwork ins x stride n : ℕ) : Type 0 where
+  pub some : 0 < ins
   pub place-in : at < len
   pub history-is : nhistory ≡ ins * len
   pub block-in : (c : ℕ) → c < ins → x + c * stride + n ≤ nwork
 
 pub record FetchFits (at len nhistory nwork ins to stride back n : ℕ) : Type 0 where
+  pub some : 0 < ins
   pub place-in : at < len
   pub history-is : nhistory ≡ ins * len
   pub back-in : back < len
@@ -22,6 +24,7 @@ pub record CopyFits (nwork to step from stride w n : ℕ) : Type 0 where
   pub apart : (c e : ℕ) → c < w → e < w → Apart (to + c * step) n (from + e * stride) n
 
 pub record GatherFits (at len nhistory nwork ins to x stride back n : ℕ) : Type 0 where
+  pub some : 0 < ins
   pub place-in : at < len
   pub history-is : nhistory ≡ ins * len
   pub back-in : back < len

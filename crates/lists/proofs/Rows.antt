@@ -17,6 +17,12 @@ module _ {A : Type 0} where
   unfolding rows
   rows-none a s m g old = refl
 
+  -- rows of no places
+  pub rows-narrow : (a s w : ℕ) (g : ℕ → ℕ → A) (old : List A) → old ≡ rows a s 0 w g old
+  unfolding rows fill
+  rows-narrow a s zero g old = refl
+  rows-narrow a s (suc w) g old = rows-narrow a s w g old
+
   pub length-rows : (a s m w : ℕ) (g : ℕ → ℕ → A) (old : List A) → length (rows a s m w g old) ≡ length old
   unfolding rows
   length-rows a s m zero g old = refl
