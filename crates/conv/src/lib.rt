@@ -1,17 +1,33 @@
 // A causal, dilated, grouped convolution of a planar block of columns, over regions of one scratch. Carries conv.rs (`process_sample`,
 // `process_block`). Document 01, 'The recurrence': start at the bias, or +0 without one; add product by product, tap 0 upward, within a tap local
 // input 0 upward.
+ghost use mathlib.Core.Path.{_≡_};
+ghost use mathlib.Core.Bool.{true, cond};
+ghost use Prim.Native.Nat.{ℕ, _+_, _*_, _%_, _≤_, _<_};
+ghost use lib.ListN.{length};
+ghost use lib.Ieee.{ofBits, binary32};
+ghost use Rattle.lists.specs.Tab.{at, tab, rows};
+ghost use Rattle.ring.specs.Memory.{past};
+ghost use Rattle.shape.specs.Counts.{InRange, ringLength, outputsPerGroup, weightCount};
+ghost use Rattle.shape.specs.Groups.{Divided};
+ghost use Rattle.conv.specs.Recurrence.{startOf, stepsBack, tapFrom, tapsFrom, output, remembered};
+ghost use Rattle.conv.specs.Fits.{PartsFit, ConvFits, BlockFits, TapFits, GroupFits};
+ghost use Rattle.conv.specs.Does.{Convolved, Played, Tapped, AllTapped, Cut};
 use ring::Ring;
 use shape::Shape;
 
 // The number that a sum starts at.
 fn bias(weights: &[f32], biased: bool, i: usize) -> f32
+    requires { ⌜ (biased ≡ true → i < length (now weights)) ⌝ }
+    ensures { λ r. ⌜ r ≡ cond biased (at (now (weights .entry)) i) (ofBits binary32 0) ⌝ }
 {
     if biased { weights[i] } else { 0.0 }
 }
 
 // How many columns back tap k reads.
 fn steps_back(sh: Shape, k: usize) -> usize
+    requires { ⌜ InRange sh × (k < sh .kernel) ⌝ }
+    ensures { λ r. ⌜ r ≡ stepsBack sh k ⌝ }
 {
     (sh.kernel - 1 - k) * sh.dilation
 }
@@ -19,6 +35,8 @@ fn steps_back(sh: Shape, k: usize) -> usize
 // ---- many columns at once: weight by weight, sixteen columns side by side
 
 fn start(work: &mut [f32], weights: &[f32], out: usize, m: usize, n: usize, sh: Shape)
+    requires { ⌜ InRange sh × Divided sh × (length (now weights) ≡ weightCount sh) × ((o : ℕ) → o < sh .outs → out + o * m + n ≤ length (now work)) ⌝ }
+    ensures { λ _. ⌜ now (work .exit) ≡ rows out m n (sh .outs) (λ o t. startOf sh (now (weights .entry)) o) (now (work .entry)) ⌝ }
 {
     let outs = sh.outs;
     let count = sh.kernel_count();
@@ -41,6 +59,10 @@ fn tap_group(
     k: usize,
     g: usize,
 )
+    requires { ⌜ TapFits sh (length (now work)) (length (now weights)) out m from stride n k × (g < sh .groups) ⌝ }
+    ensures { λ _. ⌜ now (work .exit) ≡ rows (out + g * outputsPerGroup sh * m) m n (outputsPerGroup sh)
+        (λ i t. tapFrom sh (now (weights .entry)) (λ c b. at (now (work .entry)) (from + c * stride + t)) (g * outputsPerGroup sh + i) k
+        (at (now (work .entry)) (out + (g * outputsPerGroup sh + i) * m + t))) (now (work .entry)) ⌝ }
 {
     let ipg = sh.inputs_per_group();
     let opg = sh.outputs_per_group();
@@ -63,6 +85,9 @@ fn tap(
     sh: Shape,
     k: usize,
 )
+    requires { ⌜ TapFits sh (length (now work)) (length (now weights)) out m from stride n k ⌝ }
+    ensures { λ _. ⌜ now (work .exit) ≡ rows out m n (sh .outs)
+        (λ o t. tapFrom sh (now (weights .entry)) (λ c b. at (now (work .entry)) (from + c * stride + t)) o k (at (now (work .entry)) (out + o * m + t))) (now (work .entry)) ⌝ }
 {
     let groups = sh.groups;
     for g in 0..groups {
@@ -83,6 +108,8 @@ fn read_tap(
     n: usize,
     k: usize,
 )
+    requires { ⌜ BlockFits sh (ring .at) (ring .len) m n (length (now work)) (length (now history)) (length (now weights)) x out rows × (n % 16 ≡ 0) × (k < sh .kernel) ⌝ }
+    ensures { λ _. ⌜ Tapped sh (now (weights .entry)) m n x out rows (record { history = now (history .entry); place = ring .at }) (now (work .entry)) k (now (work .exit)) ⌝ }
 {
     let back = steps_back(sh, k);
     if back == 0 {
@@ -106,6 +133,8 @@ fn taps(
     m: usize,
     n: usize,
 )
+    requires { ⌜ BlockFits sh (ring .at) (ring .len) m n (length (now work)) (length (now history)) (length (now weights)) x out rows × (n % 16 ≡ 0) ⌝ }
+    ensures { λ _. ⌜ AllTapped sh (now (weights .entry)) m n x out rows (record { history = now (history .entry); place = ring .at }) (now (work .entry)) (sh .kernel) (now (work .exit)) ⌝ }
 {
     let kernel = sh.kernel;
     for k in 0..kernel {
@@ -125,6 +154,9 @@ fn columns(
     m: usize,
     n: usize,
 ) -> Ring
+    requires { ⌜ BlockFits sh (ring .at) (ring .len) m n (length (now work)) (length (now history)) (length (now weights)) x out rows × (n % 16 ≡ 0) ⌝ }
+    ensures { λ r. ⌜ Played sh (now (weights .entry)) m n x out rows (now (work .entry)) (record { history = now (history .entry); place = ring .at }) (now (work .exit))
+        (record { history = now (history .exit); place = r .at }) × (r .len ≡ ring .len) ⌝ }
 {
     start(work, weights, out, m, n, sh);
     taps(work, history, weights, x, out, rows, ring, sh, m, n);
@@ -135,6 +167,8 @@ fn columns(
 // ---- one column: eight outputs side by side, out of the history
 
 fn start_eight(weights: &[f32], biased: bool, from: usize) -> [f32; 8]
+    requires { ⌜ (from < 4294967296) × (biased ≡ true → from + 8 ≤ length (now weights)) ⌝ }
+    ensures { λ r. ⌜ r ≡ tab 8 (λ i. cond biased (at (now (weights .entry)) (from + i)) (ofBits binary32 0)) ⌝ }
 {
     let mut r = [0.0f32; 8];
     for i in 0..8 {
@@ -153,6 +187,9 @@ fn taps_eight(
     g: usize,
     o: usize,
 ) -> [f32; 8]
+    requires { ⌜ PartsFit sh (ring .at) (ring .len) (length (now history)) (length (now weights)) × GroupFits sh g o 8 ⌝ }
+    ensures { λ r. ⌜ r ≡ tab 8 (λ i. tapsFrom sh (now (weights .entry))
+        (past (sh .ins) (ringLength sh) (record { history = now (history .entry); place = ring .at })) (o + i) (sh .kernel) (at sums i)) ⌝ }
 {
     let ins = sh.ins;
     let kernel = sh.kernel;
@@ -179,6 +216,8 @@ fn taps_one(
     g: usize,
     o: usize,
 ) -> f32
+    requires { ⌜ PartsFit sh (ring .at) (ring .len) (length (now history)) (length (now weights)) × GroupFits sh g o 1 ⌝ }
+    ensures { λ r. ⌜ r ≡ tapsFrom sh (now (weights .entry)) (past (sh .ins) (ringLength sh) (record { history = now (history .entry); place = ring .at })) o (sh .kernel) sum ⌝ }
 {
     let ins = sh.ins;
     let kernel = sh.kernel;
@@ -207,6 +246,8 @@ fn eights(
     first: usize,
     q: usize,
 )
+    requires { ⌜ PartsFit sh (ring .at) (ring .len) (length (now history)) (length (now weights)) × GroupFits sh g first (q * 8) × ((o : ℕ) → o < sh .outs → out + o * m < length (now work)) ⌝ }
+    ensures { λ _. ⌜ now (work .exit) ≡ rows (out + first * m) m 1 (q * 8) (λ i t. output sh (now (weights .entry)) (record { history = now (history .entry); place = ring .at }) (first + i)) (now (work .entry)) ⌝ }
 {
     let biased = sh.biased;
     let count = sh.kernel_count();
@@ -230,6 +271,8 @@ fn ones(
     first: usize,
     q: usize,
 )
+    requires { ⌜ PartsFit sh (ring .at) (ring .len) (length (now history)) (length (now weights)) × GroupFits sh g first q × ((o : ℕ) → o < sh .outs → out + o * m < length (now work)) ⌝ }
+    ensures { λ _. ⌜ now (work .exit) ≡ rows (out + first * m) m 1 q (λ i t. output sh (now (weights .entry)) (record { history = now (history .entry); place = ring .at }) (first + i)) (now (work .entry)) ⌝ }
 {
     let biased = sh.biased;
     let count = sh.kernel_count();
@@ -251,6 +294,9 @@ fn group_outputs(
     sh: Shape,
     g: usize,
 )
+    requires { ⌜ PartsFit sh (ring .at) (ring .len) (length (now history)) (length (now weights)) × (g < sh .groups) × ((o : ℕ) → o < sh .outs → out + o * m < length (now work)) ⌝ }
+    ensures { λ _. ⌜ now (work .exit) ≡ rows (out + g * outputsPerGroup sh * m) m 1 (outputsPerGroup sh)
+        (λ i t. output sh (now (weights .entry)) (record { history = now (history .entry); place = ring .at }) (g * outputsPerGroup sh + i)) (now (work .entry)) ⌝ }
 {
     let opg = sh.outputs_per_group();
     let first = g * opg;
@@ -268,6 +314,8 @@ fn outputs(
     ring: Ring,
     sh: Shape,
 )
+    requires { ⌜ PartsFit sh (ring .at) (ring .len) (length (now history)) (length (now weights)) × ((o : ℕ) → o < sh .outs → out + o * m < length (now work)) ⌝ }
+    ensures { λ _. ⌜ now (work .exit) ≡ rows out m 1 (sh .outs) (λ o t. output sh (now (weights .entry)) (record { history = now (history .entry); place = ring .at }) o) (now (work .entry)) ⌝ }
 {
     let groups = sh.groups;
     for g in 0..groups {
@@ -285,6 +333,11 @@ fn column(
     sh: Shape,
     m: usize,
 ) -> Ring
+    requires { ⌜ PartsFit sh (ring .at) (ring .len) (length (now history)) (length (now weights))
+        × ((c : ℕ) → c < sh .ins → x + c * m < length (now work)) × ((o : ℕ) → o < sh .outs → out + o * m < length (now work)) ⌝ }
+    ensures { λ r. ⌜ (record { history = now (history .exit); place = r .at } ≡ remembered sh (λ t c. at (now (work .entry)) (x + c * m + t)) (record { history = now (history .entry); place = ring .at }) 1)
+        × (now (work .exit) ≡ rows out m 1 (sh .outs) (λ o t. output sh (now (weights .entry)) (record { history = now (history .exit); place = r .at }) o) (now (work .entry)))
+        × (r .len ≡ ring .len) ⌝ }
 {
     let ins = sh.ins;
     let next = history::store(history, work, x, m, ring, ins, 1);
@@ -295,6 +348,8 @@ fn column(
 // ---- a block, cut into parts
 
 fn width(left: usize) -> usize
+    requires { ⌜ 0 < left ⌝ }
+    ensures { λ r. ⌜ Cut left r ⌝ }
 {
     if left < 16 {
         return 1;
@@ -317,6 +372,9 @@ fn part(
     m: usize,
     n: usize,
 ) -> Ring
+    requires { ⌜ BlockFits sh (ring .at) (ring .len) m n (length (now work)) (length (now history)) (length (now weights)) x out rows × ((n ≡ 1 → ⊥) → n % 16 ≡ 0) ⌝ }
+    ensures { λ r. ⌜ Played sh (now (weights .entry)) m n x out rows (now (work .entry)) (record { history = now (history .entry); place = ring .at }) (now (work .exit))
+        (record { history = now (history .exit); place = r .at }) × (r .len ≡ ring .len) ⌝ }
 {
     if n == 1 {
         return column(work, history, weights, x, out, ring, sh, m);
@@ -335,6 +393,9 @@ pub fn conv(
     sh: Shape,
     m: usize,
 ) -> Ring
+    requires { ⌜ ConvFits sh (ring .at) (ring .len) m (length (now work)) (length (now history)) (length (now weights)) x out rows ⌝ }
+    ensures { λ r. ⌜ Convolved sh (now (weights .entry)) m x out rows (now (work .entry)) (record { history = now (history .entry); place = ring .at }) (now (work .exit))
+        (record { history = now (history .exit); place = r .at }) × (r .len ≡ ring .len) ⌝ }
 {
     let mut place = ring;
     let mut t = 0;

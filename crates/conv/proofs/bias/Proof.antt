@@ -11,19 +11,19 @@ use Rattle.conv.proofs.bias.Lts as lts
 
 -- src/lib.rt:24:17
 mul-result : tie.Need-mul-result
-mul-result c = search needs
+mul-result c = omega (arith, c .before .pre (c .if1 .taken))
 
 -- src/lib.rt:24:17
 shared-slice-read-result : tie.Need-shared-slice-read-result
-shared-slice-read-result c = search needs
+shared-slice-read-result c = omega (arith, c .before .before .pre (c .before .if1 .taken))
 
 -- src/lib.rt:20:1
 returns : tie.Need-returns
-returns c = search needs
+returns c = rw (c .before .if1 .taken)
 
 -- src/lib.rt:20:1
 returns-2 : tie.Need-returns-2
-returns-2 c = search needs
+returns-2 c = rw (c .if1 .left)
 
 pub bias-spec : {M : Type 1} → statement M
 bias-spec = tie.close (tie.spec mul-result shared-slice-read-result returns returns-2)

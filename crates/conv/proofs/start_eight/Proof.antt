@@ -1,3 +1,7 @@
+use lib.Ieee.{ofBits}
+use mathlib.Core.Bool.{cond, true}
+use Rattle.lists.proofs.Fill.{fill-none, fill-step, fill-all}
+use Rattle.lists.specs.Tab.{at, tab, fill, rows}
 use mathlib.Core.Path.{_≡_, refl, sym, _∙_, ap}
 use Prim.Native.Nat.{ℕ, _+_, _*_, _-_, _/_, _%_, _≤_, _<_}
 use native.Mathlib.Omega.{arith}
@@ -11,14 +15,15 @@ use Rattle.conv.proofs.start_eight.Lts as lts
 use Rattle.conv.proofs.bias.Reads as bias-reads
 
 abbrev Inv-loop : tie.InvT-loop
-Inv-loop weights biased from r₀ i₀ r i = ?
+Inv-loop weights biased from r₀ i₀ r i =
+    (i ≤ 8) × (length r₀ ≡ 8) × (length r ≡ 8) × (r ≡ fill 0 i (λ i. cond biased (at weights (from + i)) (ofBits binary32 0)) r₀)
 
 abbrev μ-loop : tie.MeasureT-loop
-μ-loop weights biased from r₀ i₀ r i = ?
+μ-loop weights biased from r₀ i₀ r i = 8 - i
 
 -- src/lib.rt:174:5
 loop-holds : tie.Need-loop-holds Inv-loop μ-loop
-loop-holds c = search needs
+loop-holds c = (search needs, search needs, search needs, sym (fill-none _ _ _))
 
 -- src/lib.rt:175:39
 add-bias : tie.Need-add-bias Inv-loop μ-loop
@@ -26,7 +31,7 @@ add-bias c = search needs
 
 -- src/lib.rt:175:13
 bias-requires : tie.Need-bias-requires Inv-loop μ-loop
-bias-requires c κs = search needs
+bias-requires c κs = λ b. omega (arith, c .before .before .before .pre .1 b, c .loop-test .taken)
 
 -- src/lib.rt:176:9
 mul-r : tie.Need-mul-r Inv-loop μ-loop
@@ -46,11 +51,11 @@ loop-less c = search needs
 
 -- src/lib.rt:174:5
 loop-again : tie.Need-loop-again Inv-loop μ-loop
-loop-again c = search needs
+loop-again c = (search needs, search needs, search needs, fill-step _ _ _ _ _ (c .before .before .loop .inv .3) (c .bias .ensures))
 
 -- src/lib.rt:169:1
 returns : tie.Need-returns Inv-loop μ-loop
-returns c = search needs
+returns c = let e : c .before .loop .i ≡ 8 = omega arith in (rw e at (c .before .loop .inv .3)) ∙ fill-all nan _ _ _ (c .before .loop .inv .1)
 
 pub start-eight-spec : {M : Type 1} → statement M
 start-eight-spec =
