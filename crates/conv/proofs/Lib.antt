@@ -1,2 +1,3 @@
 pub mod Indices
 pub mod Sums
+pub mod Rows
