@@ -28,6 +28,10 @@ pub kernel-in : (sh : Shape) (n : ℕ) → n ≡ weightCount sh → kernelCount 
 unfolding weightCount
 kernel-in sh n e = omega (arith, e)
 
+-- some of the outputs of a stretch
+pub stretch : {sh : Shape} {g first n : ℕ} (i k : ℕ) → GroupFits sh g first n → i + k ≤ n → GroupFits sh g (first + i) k
+stretch i k h le = record { group-in = h .group-in; low = omega (arith, h .low); high = omega (arith, h .high, le) }
+
 module _ {sh : Shape} (d : Divided sh) (f : InRange sh) where
   -- the outputs of group g
   pub output-in : (g i : ℕ) → g < sh .groups → i < outputsPerGroup sh → g * outputsPerGroup sh + i < sh .outs
@@ -35,6 +39,10 @@ module _ {sh : Shape} (d : Divided sh) (f : InRange sh) where
 
   pub group-end : (g : ℕ) → g < sh .groups → g * outputsPerGroup sh + outputsPerGroup sh ≤ sh .outs
   group-end g hg = omega (arith, outs-are d, row-end g (sh .groups) (outputsPerGroup sh) hg)
+
+  -- the first n outputs of group g, as the code has them
+  pub group-fits : (g n opg : ℕ) → g < sh .groups → opg ≡ outputsPerGroup sh → n ≤ opg → GroupFits sh g (g * opg) n
+  group-fits g n opg hg e le = rw e (record { group-in = hg; low = omega arith; high = omega (arith, e, le) })
 
   pub inputs-end : (g : ℕ) → g < sh .groups → g * inputsPerGroup sh + inputsPerGroup sh ≤ sh .ins
   inputs-end g hg = omega (arith, ins-are d, row-end g (sh .groups) (inputsPerGroup sh) hg)

@@ -1,3 +1,4 @@
 pub mod Indices
 pub mod Sums
 pub mod Rows
+pub mod OneColumn

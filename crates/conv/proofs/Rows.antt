@@ -11,7 +11,6 @@ use Rattle.lists.specs.Region.{Apart}
 use Rattle.lists.proofs.Nums.{row-end, row-next}
 use Rattle.lists.proofs.Rows.{rows-more, rows-ext, rows-join, at-rows-out}
 use Rattle.single.specs.Sum.{sumFrom}
-use Rattle.single.proofs.Sum.{sum-ext}
 use Rattle.sums.specs.Product.{product}
 use Rattle.sums.specs.Fits.{InputsFit, RowFits}
 use Rattle.shape.specs.declared.Shape.{Shape}
@@ -21,20 +20,13 @@ use Rattle.shape.proofs.Groups.{some-in, outs-are}
 use Rattle.conv.specs.Recurrence.{startOf, stepsBack, channelOf, weightIndex, tapFrom}
 use Rattle.conv.specs.Fits.{TapFits}
 use Rattle.conv.proofs.Indices.{kernel-in, output-in, group-end, inputs-end, channel-in, channel-is, weight-in, weight-is}
-use Rattle.conv.proofs.Sums.{tap-is}
+use Rattle.conv.proofs.Sums.{tap-is, tap-ext}
 
 pub start-turn : (sh : Shape) (weights old work last : List Float) (out m n o count : ℕ) (b : Float) → count ≡ kernelCount sh
     → work ≡ rows out m n o (λ o t. startOf sh weights o) old → b ≡ cond (sh .biased) (at weights (count + o)) (ofBits binary32 0)
     → last ≡ fill (out + o * m) n (λ t. b) work → last ≡ rows out m n (o + 1) (λ o t. startOf sh weights o) old
 unfolding startOf
 start-turn sh weights old work last out m n o count b e r h l = rows-more out m n o _ _ work old last r l (λ t ht. rw (h, e))
-
--- a tap looks at its own channels alone
-pub tap-ext : (sh : Shape) (weights : List Float) (v u : ℕ → ℕ → Float) (o k : ℕ) (start : Float)
-    → ((j : ℕ) → j < inputsPerGroup sh → v (channelOf sh o j) (stepsBack sh k) ≡ u (channelOf sh o j) (stepsBack sh k))
-    → tapFrom sh weights v o k start ≡ tapFrom sh weights u o k start
-unfolding tapFrom
-tap-ext sh weights v u o k start h = sum-ext start (inputsPerGroup sh) _ _ (λ j hj. rw (h j hj))
 
 module _ {sh : Shape} {nwork nweights out m from stride n k : ℕ} (f : TapFits sh nwork nweights out m from stride n k) where
   -- the sums of output i of group g, and the rows that they read

@@ -44,6 +44,20 @@ pub taps-more : (sh : Shape) (weights : List Float) (v : ℕ → ℕ → Float) 
 unfolding tapsFrom
 taps-more sh weights v o k start sum last e h = rw (h, e, add-one)
 
+-- a tap, and all taps, look at their own channels and columns alone
+pub tap-ext : (sh : Shape) (weights : List Float) (v u : ℕ → ℕ → Float) (o k : ℕ) (start : Float)
+    → ((j : ℕ) → j < inputsPerGroup sh → v (channelOf sh o j) (stepsBack sh k) ≡ u (channelOf sh o j) (stepsBack sh k))
+    → tapFrom sh weights v o k start ≡ tapFrom sh weights u o k start
+unfolding tapFrom
+tap-ext sh weights v u o k start h = sum-ext start (inputsPerGroup sh) _ _ (λ j hj. rw (h j hj))
+
+pub taps-ext : (sh : Shape) (weights : List Float) (v u : ℕ → ℕ → Float) (o : ℕ) (start : Float)
+    → ((j k : ℕ) → j < inputsPerGroup sh → v (channelOf sh o j) (stepsBack sh k) ≡ u (channelOf sh o j) (stepsBack sh k))
+    → (k : ℕ) → tapsFrom sh weights v o k start ≡ tapsFrom sh weights u o k start
+unfolding tapsFrom
+taps-ext sh weights v u o start h zero = refl
+taps-ext sh weights v u o start h (suc k) = rw (taps-ext sh weights v u o start h k) (tap-ext sh weights v u o k (tapsFrom sh weights u o k start) (λ j hj. h j k hj))
+
 -- the weight of lane i's input j, as the code finds it
 pub lane-weight : (o i j k ipg kernel : ℕ) → o * (ipg * kernel) + k + i * (ipg * kernel) + j * kernel ≡ ((o + i) * ipg + j) * kernel + k
 lane-weight o i j k ipg kernel = rw (sym (mul-assoc o ipg kernel), sym (mul-assoc i ipg kernel)) (omega arith)

@@ -1,0 +1,58 @@
+use mathlib.Core.Path.{_≡_, refl, sym, _∙_, ap}
+use Prim.Native.Nat.{ℕ, _+_, _*_, _-_, _/_, _%_, _≤_, _<_}
+use native.Mathlib.Omega.{arith}
+use lib.ListN.{length, set, take, drop, length-set}
+use lib.Ieee.{Float, nan, binary32, add, mul}
+use borrow.Author.Needs.{needs}
+use Rattle.conv.proofs.read_tap.Statement.{statement}
+use Rattle.conv.proofs.read_tap.Tie as tie
+use Rattle.conv.proofs.read_tap.Reads as reads
+use Rattle.conv.proofs.read_tap.Lts as lts
+use Rattle.conv.proofs.steps_back.Reads as steps-back-reads
+use Rattle.conv.proofs.tap.Reads as tap-reads
+use Rattle.history.proofs.gather.Reads as gather-reads
+
+-- src/lib.rt:114:9
+steps-back-requires : tie.Need-steps-back-requires
+steps-back-requires c κs = search needs
+
+-- src/lib.rt:116:9
+tap-requires : tie.Need-tap-requires
+tap-requires c κs = search needs
+
+-- src/lib.rt:119:9
+gather-requires : tie.Need-gather-requires
+gather-requires c κs = search needs
+
+-- src/lib.rt:120:9
+tap-requires-2 : tie.Need-tap-requires-2
+tap-requires-2 c κs = search needs
+
+-- src/lib.rt:98:1
+same-length : tie.Need-same-length
+same-length c = search needs
+
+-- src/lib.rt:98:1
+returns : tie.Need-returns
+returns c = search needs
+
+-- src/lib.rt:98:1
+same-length-2 : tie.Need-same-length-2
+same-length-2 c = search needs
+
+-- src/lib.rt:98:1
+returns-2 : tie.Need-returns-2
+returns-2 c = search needs
+
+pub read-tap-spec : {M : Type 1} → statement M
+read-tap-spec =
+    tie.close
+    (tie.spec
+    steps-back-requires
+    tap-requires
+    gather-requires
+    tap-requires-2
+    same-length
+    returns
+    same-length-2
+    returns-2)
