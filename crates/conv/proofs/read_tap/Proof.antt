@@ -1,3 +1,6 @@
+use Rattle.conv.specs.Recurrence.{stepsBack, output, remembered}
+use Rattle.conv.specs.Fits.{BlockFits}
+use Rattle.conv.proofs.Block.{block-tap-fits, rows-tap-fits, gather-fits, store-fits, tapped-here, tapped-rows, all-none, all-more, columns-are, column-is}
 use mathlib.Core.Path.{_≡_, refl, sym, _∙_, ap}
 use Prim.Native.Nat.{ℕ, _+_, _*_, _-_, _/_, _%_, _≤_, _<_}
 use native.Mathlib.Omega.{arith}
@@ -14,19 +17,19 @@ use Rattle.history.proofs.gather.Reads as gather-reads
 
 -- src/lib.rt:114:9
 steps-back-requires : tie.Need-steps-back-requires
-steps-back-requires c κs = search needs
+steps-back-requires c κs = (c .before .before .before .pre .0 .parts .range, c .before .before .before .pre .2)
 
 -- src/lib.rt:116:9
 tap-requires : tie.Need-tap-requires
-tap-requires c κs = search needs
+tap-requires c κs = block-tap-fits (c .before .before .before .before .before .before .pre .0) (c .before .before .before .before .before .before .args .k) (c .before .before .before .before .before .before .pre .2) (c .before .before .before .before .before .before .pre .1)
 
 -- src/lib.rt:119:9
 gather-requires : tie.Need-gather-requires
-gather-requires c κs = search needs
+gather-requires c κs = gather-fits (c .before .before .before .before .before .before .pre .0) (c .before .before .before .before .before .before .args .k) _ (c .before .before .steps-back .ensures)
 
 -- src/lib.rt:120:9
 tap-requires-2 : tie.Need-tap-requires-2
-tap-requires-2 c κs = search needs
+tap-requires-2 c κs = rows-tap-fits (c .before .before .before .before .before .before .before .before .before .before .pre .0) (c .before .before .before .before .before .before .before .before .before .before .args .k) _ (c .before .before .before .before .before .before .before .before .before .before .pre .2) (c .before .before .before .before .before .before .before .before .before .before .pre .1) (c .before .before .before .gather .kept .0)
 
 -- src/lib.rt:98:1
 same-length : tie.Need-same-length
@@ -34,7 +37,7 @@ same-length c = search needs
 
 -- src/lib.rt:98:1
 returns : tie.Need-returns
-returns c = search needs
+returns c = tapped-here (c .before .before .before .before .before .before .before .before .before .pre .0) (c .before .before .before .before .before .before .before .before .before .args .weights .now) (c .before .before .before .before .before .before .before .before .before .args .work .now) _ (c .before .before .before .before .before .before .before .before .before .args .k) refl _ (sym (c .before .before .before .before .before .steps-back .ensures) ∙ c .before .before .before .before .if1 .taken) (c .before .before .tap .ensures)
 
 -- src/lib.rt:98:1
 same-length-2 : tie.Need-same-length-2
@@ -42,7 +45,7 @@ same-length-2 c = search needs
 
 -- src/lib.rt:98:1
 returns-2 : tie.Need-returns-2
-returns-2 c = search needs
+returns-2 c = tapped-rows (c .before .before .before .before .before .before .before .before .before .before .before .before .before .pre .0) (c .before .before .before .before .before .before .before .before .before .before .before .before .before .args .weights .now) (c .before .before .before .before .before .before .before .before .before .before .before .before .before .args .work .now) _ (c .before .before .before .before .before .before .before .before .before .before .before .before .before .args .k) refl _ _ _ (c .before .before .before .before .before .before .before .before .before .steps-back .ensures) (c .before .before .before .before .before .before .gather .ensures) (c .before .before .tap2 .ensures)
 
 pub read-tap-spec : {M : Type 1} → statement M
 read-tap-spec =
