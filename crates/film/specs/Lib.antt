@@ -1,0 +1,2 @@
+pub mod Modulated
+pub mod Fits
