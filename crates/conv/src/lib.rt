@@ -95,6 +95,17 @@ fn tap(
     }
 }
 
+// Whether a tap reads the block's rows where they lie. Only the last tap can, and where the block is cut it does not either: the rows of a long block
+// lie so far apart that they push each other out of the nearest memory, and a copy of a part is read faster than it is made.
+fn in_place(back: usize, m: usize, n: usize) -> bool
+    ensures { λ r. ⌜ (r ≡ true → back ≡ 0) ⌝ }
+{
+    if back == 0 {
+        return n == m;
+    }
+    false
+}
+
 fn read_tap(
     work: &mut [f32],
     history: &[f32],
@@ -112,7 +123,7 @@ fn read_tap(
     ensures { λ _. ⌜ Tapped sh (now (weights .entry)) m n x out rows (record { history = now (history .entry); place = ring .at }) (now (work .entry)) k (now (work .exit)) ⌝ }
 {
     let back = steps_back(sh, k);
-    if back == 0 {
+    if in_place(back, m, n) {
         tap(work, weights, out, m, x, m, n, sh, k);
     } else {
         let ins = sh.ins;
