@@ -4,3 +4,4 @@ pub mod Rows
 pub mod OneColumn
 pub mod Block
 pub mod Cuts
+pub mod Cases

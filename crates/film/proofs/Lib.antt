@@ -1,2 +1,3 @@
 pub mod Turn
 pub mod Agree
+pub mod Cases
