@@ -1,7 +1,7 @@
 -- Many columns at once: gathered taps are the sliding window's, so the block's sums are the recurrence's. Assumes nothing.
-use mathlib.Core.Path.{_≡_, refl, sym, _∙_, ap}
+use mathlib.Core.Path.{_≡_, sym, _∙_, ap}
 use mathlib.Core.List.{List}
-use Prim.Native.Nat.{ℕ, zero, suc, _+_, _-_, _*_, _%_, _≤_, _<_, min, max}
+use Prim.Native.Nat.{ℕ, suc, _+_, _-_, _*_, _%_, _≤_, _<_}
 use native.Mathlib.Omega.{arith}
 use lib.ListN.{length}
 use lib.Ieee.{Float, nan}
@@ -11,41 +11,21 @@ use Rattle.lists.proofs.Nums.{row-end}
 use Rattle.lists.proofs.Rows.{length-rows}
 use Rattle.lists.proofs.Regions.{free-then, free-as, free-self, rows-free, rows-strip, rows-beside, strip-as}
 use Rattle.ring.specs.Memory.{Memory, Sound, past, after, seen}
-use Rattle.ring.proofs.Window.{seen-ext, window, after-sound}
+use Rattle.ring.proofs.Window.{seen-ext, window}
 use Rattle.ring.proofs.Blocks.{after-ext}
 use Rattle.history.specs.Fits.{GatherFits, StoreFits}
 use Rattle.shape.specs.declared.Shape.{Shape}
-use Rattle.shape.specs.Counts.{ringLength, inputsPerGroup, historyCount}
-use Rattle.conv.specs.Recurrence.{startOf, stepsBack, channelOf, tapFrom, tapsFrom, output, remembered}
-use Rattle.conv.specs.Fits.{PartsFit, BlockFits, TapFits}
+use Rattle.shape.specs.Counts.{ringLength, historyCount}
+use Rattle.column.specs.Recurrence.{startOf, stepsBack, channelOf, tapFrom, output, remembered}
+use Rattle.conv.specs.Fits.{BlockFits, TapFits}
 use Rattle.conv.specs.Does.{Played, Tapped, AllTapped, sight}
-use Rattle.conv.proofs.Indices.{reach, channel-in}
-use Rattle.conv.proofs.Sums.{tap-ext, taps-ext, taps-none, taps-more}
+use Rattle.column.proofs.OneColumn.{sound}
+use Rattle.column.proofs.Indices.{reach, channel-in}
+use Rattle.column.proofs.Sums.{tap-ext, taps-ext, taps-none, taps-more}
 
 -- every row ends within, in one inequality
 rows-fit : (a s n w all : ℕ) → 0 < w → ((c : ℕ) → c < w → a + c * s + n ≤ all) → a + n + w * s ≤ all + s
 rows-fit a s n (suc w) all p h = omega (arith, h w (omega arith))
-
-pub sound : {sh : Shape} {len nweights : ℕ} (s : Memory) → PartsFit sh (s .place) len (length (s .history)) nweights → Sound (sh .ins) (ringLength sh) s
-unfolding historyCount
-sound s f = record { place-in = rw (sym (f .ring-is)) (f .place-in); history-is = f .history-is }
-
--- columns pushed leave a memory of the same size
-pub parts-after : {sh : Shape} {place len nweights : ℕ} (place′ len′ n : ℕ) (history history′ : List Float) (g : ℕ → ℕ → Float) → PartsFit sh place len (length history) nweights
-    → record { history = history′; place = place′ } ≡ after (sh .ins) len g (record { history = history; place = place }) n → len′ ≡ len
-    → PartsFit sh place′ len′ (length history′) nweights
-unfolding historyCount
-parts-after {sh} {place} {len} place′ len′ n history history′ g f e l =
-    let before : Sound (sh .ins) len (record { history = history; place = place }) = record { place-in = f .place-in; history-is = rw (f .ring-is) (f .history-is) } in
-    let then : Sound (sh .ins) len (record { history = history′; place = place′ }) = rw e (after-sound before g n) in
-    record {
-      range = f .range;
-      divided = f .divided;
-      place-in = rw l (then .place-in);
-      ring-is = l ∙ f .ring-is;
-      history-is = rw (sym (f .ring-is)) (then .history-is);
-      weights-is = f .weights-is;
-    }
 
 module _ {sh : Shape} {place len m n nwork nhistory nweights x out rows′ : ℕ} (f : BlockFits sh place len m n nwork nhistory nweights x out rows′) where
   -- a tap that reads the block itself, or what was gathered of it

@@ -2,12 +2,11 @@
 use mathlib.Core.Path.{_≡_, refl, sym, _∙_, ap}
 use mathlib.Core.List.{List}
 use mathlib.Core.Logic.{⊎-elim}
-use Prim.Native.Nat.{ℕ, zero, suc, _+_, _-_, _*_, _≤_, _<_, min, max}
+use Prim.Native.Nat.{ℕ, suc, _+_, _-_, _*_, _≤_, _<_}
 use native.Mathlib.Nat.{mul-le-mul-left, not-suc-le-zero, add-suc}
 use native.Mathlib.Omega.{arith}
 use lib.ListN.{length}
 use lib.Ieee.{Float, nan}
-use Rattle.lists.specs.Tab.{at}
 use Rattle.lists.specs.Region.{Apart, Beside, Holds, Strip, Free, cell}
 use Rattle.lists.proofs.Nums.{row-end, le-or-lt}
 use Rattle.lists.proofs.Regions.{free-self, free-then, holds-free, holds-strip, strip-as, strip-free, strip-join, strip-holds}
@@ -15,10 +14,10 @@ use Rattle.ring.specs.Memory.{Memory, after}
 use Rattle.ring.proofs.Blocks.{after-none, after-join}
 use Rattle.shape.specs.declared.Shape.{Shape}
 use Rattle.shape.specs.Counts.{ringLength}
-use Rattle.conv.specs.Recurrence.{output, remembered}
-use Rattle.conv.specs.Fits.{PartsFit, ConvFits, BlockFits}
+use Rattle.column.specs.Recurrence.{output, remembered}
+use Rattle.conv.specs.Fits.{ConvFits, BlockFits}
 use Rattle.conv.specs.Does.{Convolved, Played}
-use Rattle.conv.proofs.Block.{parts-after}
+use Rattle.column.proofs.OneColumn.{parts-after}
 
 -- the first t columns are done
 pub record Begun (sh : Shape) (weights : List Float) (m t x out rows : ℕ) (old : List Float) (s : Memory) (work : List Float) (s′ : Memory) : Type 0 where

@@ -1,26 +1,23 @@
 -- A tap on every output row: what the turns of `start`, `tap_group` and `tap` come to. Assumes nothing.
-use mathlib.Core.Path.{_≡_, refl, sym, _∙_, ap}
+use mathlib.Core.Path.{_≡_, sym, _∙_}
 use mathlib.Core.Bool.{cond}
 use mathlib.Core.List.{List}
-use Prim.Native.Nat.{ℕ, _+_, _-_, _*_, _/_, _%_, _≤_, _<_, min, max}
+use Prim.Native.Nat.{ℕ, _+_, _-_, _*_, _≤_, _<_}
 use native.Mathlib.Omega.{arith}
-use lib.ListN.{length}
 use lib.Ieee.{Float, nan, binary32, ofBits}
 use Rattle.lists.specs.Tab.{at, fill, rows}
-use Rattle.lists.specs.Region.{Apart}
 use Rattle.lists.proofs.Nums.{row-end, row-next}
 use Rattle.lists.proofs.Rows.{rows-more, rows-ext, rows-join, at-rows-out}
 use Rattle.single.specs.Sum.{sumFrom}
 use Rattle.sums.specs.Product.{product}
-use Rattle.sums.specs.Fits.{InputsFit, RowFits}
+use Rattle.sums.specs.Fits.{RowFits}
 use Rattle.shape.specs.declared.Shape.{Shape}
-use Rattle.shape.specs.Counts.{InRange, inputsPerGroup, outputsPerGroup, kernelCount, weightCount}
-use Rattle.shape.specs.Groups.{Divided}
-use Rattle.shape.proofs.Groups.{some-in, outs-are}
-use Rattle.conv.specs.Recurrence.{startOf, stepsBack, channelOf, weightIndex, tapFrom}
+use Rattle.shape.specs.Counts.{inputsPerGroup, outputsPerGroup, kernelCount}
+use Rattle.shape.proofs.Groups.{some-in}
+use Rattle.column.specs.Recurrence.{startOf, channelOf, tapFrom}
 use Rattle.conv.specs.Fits.{TapFits}
-use Rattle.conv.proofs.Indices.{kernel-in, output-in, group-end, inputs-end, channel-in, channel-is, weight-in, weight-is}
-use Rattle.conv.proofs.Sums.{tap-is, tap-ext}
+use Rattle.column.proofs.Indices.{kernel-in, output-in, group-end, inputs-end, channel-in, channel-is, weight-in, weight-is}
+use Rattle.column.proofs.Sums.{tap-is, tap-ext}
 
 pub start-turn : (sh : Shape) (weights old work last : List Float) (out m n o count : ℕ) (b : Float) → count ≡ kernelCount sh
     → work ≡ rows out m n o (λ o t. startOf sh weights o) old → b ≡ cond (sh .biased) (at weights (count + o)) (ofBits binary32 0)

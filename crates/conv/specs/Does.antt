@@ -8,7 +8,7 @@ use Rattle.lists.specs.Region.{Apart, Beside, Holds, Strip, Free}
 use Rattle.ring.specs.Memory.{Memory, past, seen}
 use Rattle.shape.specs.declared.Shape.{Shape}
 use Rattle.shape.specs.Counts.{ringLength}
-use Rattle.conv.specs.Recurrence.{tapFrom, tapsFrom, output, remembered}
+use Rattle.column.specs.Recurrence.{tapFrom, tapsFrom, output, remembered}
 
 -- a whole block, from memory s to s′, whichever columns f the region at x held: each column pushed, then its outputs taken. All other work but the
 -- region at rows is as it was

@@ -3,17 +3,9 @@ use mathlib.Core.Path.{_≡_}
 use Prim.Native.Nat.{ℕ, _+_, _*_, _%_, _≤_, _<_, min, max}
 use Rattle.lists.specs.Region.{Apart}
 use Rattle.shape.specs.declared.Shape.{Shape}
-use Rattle.shape.specs.Counts.{InRange, ringLength, outputsPerGroup, weightCount, historyCount}
+use Rattle.shape.specs.Counts.{InRange, weightCount}
 use Rattle.shape.specs.Groups.{Divided}
-
--- a shape, its ring, and exactly its own parts of the histories and the weights
-pub record PartsFit (sh : Shape) (at len nhistory nweights : ℕ) : Type 0 where
-  pub range : InRange sh
-  pub divided : Divided sh
-  pub place-in : at < len
-  pub ring-is : len ≡ ringLength sh
-  pub history-is : nhistory ≡ historyCount sh
-  pub weights-is : nweights ≡ weightCount sh
+use Rattle.column.specs.Fits.{PartsFit}
 
 -- regions of m columns: the input at x, the output at out, and at rows one that is used up
 pub record ConvFits (sh : Shape) (at len m nwork nhistory nweights x out rows : ℕ) : Type 0 where
@@ -49,9 +41,3 @@ pub record TapFits (sh : Shape) (nwork nweights out m from stride n k : ℕ) : T
   pub from-in : (c : ℕ) → c < sh .ins → from + c * stride + n ≤ nwork
   pub apart : (o c : ℕ) → o < sh .outs → c < sh .ins → Apart (out + o * m) n (from + c * stride) n
   pub narrow : n ≤ m
-
--- n outputs of group g from `first` on
-pub record GroupFits (sh : Shape) (g first n : ℕ) : Type 0 where
-  pub group-in : g < sh .groups
-  pub low : g * outputsPerGroup sh ≤ first
-  pub high : first + n ≤ g * outputsPerGroup sh + outputsPerGroup sh

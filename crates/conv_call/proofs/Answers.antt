@@ -1,8 +1,6 @@
 -- Tests that are true exactly when something holds. Assumes nothing.
 use mathlib.Core.Path.{_≡_, refl, sym, _∙_, subst}
 use mathlib.Core.Bool.{Bool, true, false, not}
-use Prim.Native.Nat.{ℕ}
-use native.Mathlib.Omega.{arith}
 use lib.Dec.{T}
 use Rattle.conv_call.specs.Called.{Exactly}
 

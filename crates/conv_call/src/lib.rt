@@ -7,7 +7,7 @@ ghost use lib.ListN.{length};
 ghost use lib.Dec.{eqb};
 ghost use Rattle.lists.specs.Region.{Apart};
 ghost use Rattle.shape.specs.Counts.{InRange, ringLength};
-ghost use Rattle.conv.specs.Fits.{PartsFit, ConvFits};
+ghost use Rattle.column.specs.Fits.{PartsFit};
 ghost use Rattle.conv_call.specs.Called.{Exactly, RegionsFit, CallFits, Called};
 use ring::Ring;
 use shape::Shape;

@@ -1,13 +1,13 @@
 -- The two forms agree: out of place is the same as a copy, then in place. And what a planar region holds afterwards. Assumes nothing.
-use mathlib.Core.Path.{_≡_, refl, sym, _∙_, ap}
-use mathlib.Core.Bool.{Bool, true, false}
+use mathlib.Core.Path.{_≡_, sym, _∙_, ap}
+use mathlib.Core.Bool.{Bool, true}
 use mathlib.Core.List.{List}
-use Prim.Native.Nat.{ℕ, _+_, _*_, _≤_, _<_, min, max}
+use Prim.Native.Nat.{ℕ, _+_, _*_, _≤_}
 use native.Mathlib.Omega.{arith}
 use lib.ListN.{length}
 use lib.Ieee.{Float, nan}
 use Rattle.lists.specs.Tab.{at, fill}
-use Rattle.lists.specs.Region.{Apart, Holds, cell}
+use Rattle.lists.specs.Region.{Holds}
 use Rattle.lists.proofs.Fill.{fill-ext, fill-over, at-fill-in, at-fill-out}
 use Rattle.lists.proofs.Regions.{fill-holds, cell-is}
 use Rattle.film.specs.Modulated.{modulated, modulationOf, filmed}

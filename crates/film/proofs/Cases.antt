@@ -1,7 +1,7 @@
 -- Worked cases of the definition. Assumes nothing.
 use mathlib.Core.Path.{_≡_, refl}
 use mathlib.Core.Bool.{true, false}
-use lib.Ieee.{Float, binary32, ofBits, toBits, add, mul}
+use lib.Ieee.{binary32, ofBits, toBits, add, mul}
 use Rattle.film.specs.Modulated.{modulated, modulationOf}
 
 -- 3 by 2 and -1 gives 5

@@ -1,7 +1,7 @@
 -- What the turns of the loops come to: a column stored, a column fetched, a row copied, and what a tap reads put together. Assumes nothing.
-use mathlib.Core.Path.{_≡_, refl, sym, _∙_, ap}
+use mathlib.Core.Path.{_≡_, sym, _∙_, ap}
 use mathlib.Core.List.{List}
-use Prim.Native.Nat.{ℕ, suc, _+_, _-_, _*_, _≤_, _<_, min, max}
+use Prim.Native.Nat.{ℕ, suc, _+_, _-_, _*_, _≤_, _<_, min}
 use native.Mathlib.Nat.{mul-comm}
 use native.Mathlib.Omega.{arith}
 use lib.ListN.{length}
@@ -12,7 +12,7 @@ use Rattle.lists.proofs.Nums.{row-end}
 use Rattle.lists.proofs.Rows.{rows-more, rows-ext, rows-wider, at-rows-out}
 use Rattle.ring.specs.Place.{nextPlace, placeBack}
 use Rattle.ring.specs.Memory.{Memory, push, past, after, seen}
-use Rattle.ring.proofs.Places.{next-lt, back-lt, next-back}
+use Rattle.ring.proofs.Places.{next-back}
 use Rattle.ring.proofs.Window.{seen-in, seen-out}
 use Rattle.ring.proofs.Blocks.{after-more, push-ext}
 use Rattle.history.specs.Fits.{FetchFits, CopyFits, GatherFits}

@@ -1,11 +1,10 @@
 -- Columns pushed one at a time: a block cut anywhere is the same as whole. Assumes nothing.
-use mathlib.Core.Path.{_≡_, refl, sym, _∙_, ap}
+use mathlib.Core.Path.{_≡_, refl, _∙_, ap}
 use Prim.Native.Nat.{ℕ, zero, suc, _+_, _*_, _<_}
 use native.Mathlib.Nat.{add-zero, add-suc}
 use native.Mathlib.Numerals.{add-one}
 use native.Mathlib.Omega.{arith}
 use lib.Ieee.{Float}
-use Rattle.lists.specs.Tab.{fill}
 use Rattle.lists.proofs.Fill.{fill-ext}
 use Rattle.ring.specs.Place.{nextPlace}
 use Rattle.ring.specs.Memory.{Memory, push, after}

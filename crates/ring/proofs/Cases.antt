@@ -1,6 +1,6 @@
 -- Worked cases of the definitions. Assumes nothing.
 use mathlib.Core.Path.{_≡_, refl}
-use mathlib.Core.List.{List, [], _∷_, map}
+use mathlib.Core.List.{[], _∷_, map}
 use Prim.Native.Nat.{ℕ, _+_, _*_}
 use lib.Ieee.{Float, binary32, ofBits, toBits}
 use Rattle.lists.specs.Tab.{at, tab, fill}

@@ -1,13 +1,12 @@
 -- Sums side by side, for any number of them: one more product in each; and a row of them, sixteen at a time. Assumes nothing.
-use mathlib.Core.Path.{_≡_, refl, sym, _∙_, ap}
+use mathlib.Core.Path.{_≡_, sym, _∙_}
 use mathlib.Core.List.{List}
-use Prim.Native.Nat.{ℕ, _+_, _*_, _/_, _%_, _≤_, _<_, min, max}
+use Prim.Native.Nat.{ℕ, _+_, _*_, _/_, _<_}
 use native.Mathlib.Omega.{arith}
 use lib.ListN.{length}
-use lib.Ieee.{Float, nan, binary32, add, mul}
+use lib.Ieee.{Float, nan, binary32, add}
 use Rattle.lists.specs.Tab.{at, tab, fill}
-use Rattle.lists.specs.Region.{Apart}
-use Rattle.lists.proofs.Tab.{at-tab, is-tab, tab-ext, length-tab}
+use Rattle.lists.proofs.Tab.{at-tab, is-tab, tab-ext}
 use Rattle.lists.proofs.Fill.{fill-ext, fill-join, fill-apart}
 use Rattle.single.specs.Sum.{sumFrom}
 use Rattle.single.proofs.Sum.{sum-none, sum-more, sum-ext}

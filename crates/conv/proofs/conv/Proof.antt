@@ -1,16 +1,11 @@
-use Rattle.conv.proofs.Cuts.{Begun, begun-none, begun-all, part-fits, begun-more}
-use mathlib.Core.Path.{_≡_, refl, sym, _∙_, ap}
-use Prim.Native.Nat.{ℕ, _+_, _*_, _-_, _/_, _%_, _≤_, _<_}
+use mathlib.Core.Path.{_≡_, _∙_}
+use Prim.Native.Nat.{_+_, _-_, _≤_}
 use native.Mathlib.Omega.{arith}
-use lib.ListN.{length, set, take, drop, length-set}
-use lib.Ieee.{Float, nan, binary32, add, mul}
+use lib.ListN.{length}
 use borrow.Author.Needs.{needs}
+use Rattle.conv.proofs.Cuts.{Begun, begun-none, begun-all, part-fits, begun-more}
 use Rattle.conv.proofs.conv.Statement.{statement}
 use Rattle.conv.proofs.conv.Tie as tie
-use Rattle.conv.proofs.conv.Reads as reads
-use Rattle.conv.proofs.conv.Lts as lts
-use Rattle.conv.proofs.part.Reads as part-reads
-use Rattle.conv.proofs.width.Reads as width-reads
 
 abbrev Inv-loop : tie.InvT-loop
 Inv-loop work₀ history₀ weights x out rows sh m place₀ t₀ work history place t =
@@ -20,19 +15,15 @@ Inv-loop work₀ history₀ weights x out rows sh m place₀ t₀ work history p
 abbrev μ-loop : tie.MeasureT-loop
 μ-loop work₀ history₀ weights x out rows sh m place₀ t₀ work history place t = m - t
 
--- src/lib.rt:402:5
 loop-holds : tie.Need-loop-holds Inv-loop μ-loop
 loop-holds c = (search needs, search needs, search needs, search needs, begun-none _ _ _ _ _ _ _ _)
 
--- src/lib.rt:403:23
 sub-width : tie.Need-sub-width Inv-loop μ-loop
 sub-width c = omega (arith, c .loop-test .taken)
 
--- src/lib.rt:403:13
 width-requires : tie.Need-width-requires Inv-loop μ-loop
 width-requires c κs = omega (arith, c .loop-test .taken)
 
--- src/lib.rt:404:46
 add-part : tie.Need-add-part Inv-loop μ-loop
 add-part c = 
     let l = c .before .before .before .before .loop in
@@ -41,7 +32,6 @@ add-part c =
     let fit = part-fits (c .before .before .before .before .before .before .before .before .pre) (l .inv .4) (c .before .before .width .result) _ _ (cut .some) le (l .inv .3) (l .inv .1) in
     omega (arith, fit .x-in 0 (fit .parts .range .ins-low), fit .out-in 0 (fit .parts .range .outs-low))
 
--- src/lib.rt:404:53
 add-part-2 : tie.Need-add-part-2 Inv-loop μ-loop
 add-part-2 c = 
     let l = c .before .before .before .before .loop in
@@ -50,7 +40,6 @@ add-part-2 c =
     let fit = part-fits (c .before .before .before .before .before .before .before .before .pre) (l .inv .4) (c .before .before .width .result) _ _ (cut .some) le (l .inv .3) (l .inv .1) in
     omega (arith, fit .x-in 0 (fit .parts .range .ins-low), fit .out-in 0 (fit .parts .range .outs-low))
 
--- src/lib.rt:404:9
 part-requires : tie.Need-part-requires Inv-loop μ-loop
 part-requires c κs = 
     let l = c .before .before .before .before .loop in
@@ -58,7 +47,6 @@ part-requires c κs =
     let le : l .t + c .before .before .width .result ≤ c .before .before .before .before .before .before .before .before .args .m = omega (arith, cut .within, c .before .before .before .loop-test .taken) in
     (part-fits (c .before .before .before .before .before .before .before .before .pre) (l .inv .4) (c .before .before .width .result) _ _ (cut .some) le (l .inv .3) (l .inv .1), cut .whole)
 
--- src/lib.rt:405:13
 add-t : tie.Need-add-t Inv-loop μ-loop
 add-t c = 
     let l = c .before .before .before .before .before .before .before .before .before .loop in
@@ -66,7 +54,6 @@ add-t c =
     let le : l .t + c .before .before .before .before .before .before .before .width .result ≤ c .before .before .before .before .before .before .before .before .before .before .before .before .before .args .m = omega (arith, cut .within, c .before .before .before .before .before .before .before .before .loop-test .taken) in
     omega (arith, le)
 
--- src/lib.rt:402:5
 loop-less : tie.Need-loop-less Inv-loop μ-loop
 loop-less c = 
     let l = c .before .before .before .before .before .before .before .before .before .loop in
@@ -74,7 +61,6 @@ loop-less c =
     let le : l .t + c .before .before .before .before .before .before .before .width .result ≤ c .before .before .before .before .before .before .before .before .before .before .before .before .before .args .m = omega (arith, cut .within, c .before .before .before .before .before .before .before .before .loop-test .taken) in
     omega (arith, le, cut .some)
 
--- src/lib.rt:402:5
 loop-again : tie.Need-loop-again Inv-loop μ-loop
 loop-again c = 
     let l = c .before .before .before .before .before .before .before .before .before .loop in
@@ -88,15 +74,12 @@ loop-again c =
       begun-more (c .before .before .before .before .before .before .before .before .before .before .before .before .before .pre) (l .inv .4) (c .before .before .before .before .before .before .before .width .result) _ _ le (c .before .before .before .before .part .ensures .0),
     )
 
--- src/lib.rt:385:1
 same-length : tie.Need-same-length Inv-loop μ-loop
 same-length c = search needs
 
--- src/lib.rt:385:1
 same-length-2 : tie.Need-same-length-2 Inv-loop μ-loop
 same-length-2 c = search needs
 
--- src/lib.rt:385:1
 returns : tie.Need-returns Inv-loop μ-loop
 returns c = let e : c .before .loop .t ≡ c .before .before .before .before .before .args .m = omega (arith, c .before .loop .inv .0, c .loop-test .left) in (begun-all (rw e at (c .before .loop .inv .4)), c .before .loop .inv .3)
 

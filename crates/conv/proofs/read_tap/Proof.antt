@@ -1,53 +1,34 @@
-use Rattle.conv.specs.Fits.{BlockFits}
-use Rattle.conv.proofs.Block.{block-tap-fits, rows-tap-fits, gather-fits, tapped-here, tapped-rows}
-use mathlib.Core.Path.{_≡_, refl, sym, _∙_, ap}
-use Prim.Native.Nat.{ℕ, _+_, _*_, _-_, _/_, _%_, _≤_, _<_}
-use native.Mathlib.Omega.{arith}
-use lib.ListN.{length, set, take, drop, length-set}
-use lib.Ieee.{Float, nan, binary32, add, mul}
+use mathlib.Core.Path.{refl, sym, _∙_}
+use Prim.Native.Nat.{_-_}
 use borrow.Author.Needs.{needs}
+use Rattle.conv.proofs.Block.{block-tap-fits, rows-tap-fits, gather-fits, tapped-here, tapped-rows}
 use Rattle.conv.proofs.read_tap.Statement.{statement}
 use Rattle.conv.proofs.read_tap.Tie as tie
-use Rattle.conv.proofs.read_tap.Reads as reads
-use Rattle.conv.proofs.read_tap.Lts as lts
-use Rattle.conv.proofs.in_place.Reads as in-place-reads
-use Rattle.conv.proofs.steps_back.Reads as steps-back-reads
-use Rattle.conv.proofs.tap.Reads as tap-reads
-use Rattle.history.proofs.gather.Reads as gather-reads
 
--- src/lib.rt:125:9
 steps-back-requires : tie.Need-steps-back-requires
 steps-back-requires c κs = (c .before .before .before .pre .0 .parts .range, c .before .before .before .pre .2)
 
--- src/lib.rt:126:8
 in-place-requires : tie.Need-in-place-requires
 in-place-requires c κs = search needs
 
--- src/lib.rt:127:9
 tap-requires : tie.Need-tap-requires
 tap-requires c κs = block-tap-fits (c .before .before .before .before .before .before .before .pre .0) (c .before .before .before .before .before .before .before .args .k) (c .before .before .before .before .before .before .before .pre .2) (c .before .before .before .before .before .before .before .pre .1)
 
--- src/lib.rt:130:9
 gather-requires : tie.Need-gather-requires
 gather-requires c κs = gather-fits (c .before .before .before .before .before .before .before .pre .0) (c .before .before .before .before .before .before .before .args .k) _ (c .before .before .before .steps-back .ensures)
 
--- src/lib.rt:131:9
 tap-requires-2 : tie.Need-tap-requires-2
 tap-requires-2 c κs = rows-tap-fits (c .before .before .before .before .before .before .before .before .before .before .before .pre .0) (c .before .before .before .before .before .before .before .before .before .before .before .args .k) _ (c .before .before .before .before .before .before .before .before .before .before .before .pre .2) (c .before .before .before .before .before .before .before .before .before .before .before .pre .1) (c .before .before .before .gather .kept .0)
 
--- src/lib.rt:109:1
 same-length : tie.Need-same-length
 same-length c = search needs
 
--- src/lib.rt:109:1
 returns : tie.Need-returns
 returns c = tapped-here (c .before .before .before .before .before .before .before .before .before .before .pre .0) (c .before .before .before .before .before .before .before .before .before .before .args .weights .now) (c .before .before .before .before .before .before .before .before .before .before .args .work .now) _ (c .before .before .before .before .before .before .before .before .before .before .args .k) refl _ (sym (c .before .before .before .before .before .before .steps-back .ensures) ∙ c .before .before .before .before .before .in-place .ensures (c .before .before .before .before .if1 .taken)) (c .before .before .tap .ensures)
 
--- src/lib.rt:109:1
 same-length-2 : tie.Need-same-length-2
 same-length-2 c = search needs
 
--- src/lib.rt:109:1
 returns-2 : tie.Need-returns-2
 returns-2 c = tapped-rows (c .before .before .before .before .before .before .before .before .before .before .before .before .before .before .pre .0) (c .before .before .before .before .before .before .before .before .before .before .before .before .before .before .args .weights .now) (c .before .before .before .before .before .before .before .before .before .before .before .before .before .before .args .work .now) _ (c .before .before .before .before .before .before .before .before .before .before .before .before .before .before .args .k) refl _ _ _ (c .before .before .before .before .before .before .before .before .before .before .steps-back .ensures) (c .before .before .before .before .before .before .gather .ensures) (c .before .before .tap2 .ensures)
 

@@ -1,27 +1,17 @@
+use mathlib.Core.Path.{_≡_, refl, sym}
+use Prim.Native.Nat.{_+_, _*_, _-_, _≤_}
 use native.Mathlib.Nat.{le-mul-of-pos-right}
-use Rattle.conv.proofs.Indices.{inputs-end, group-end}
-use Rattle.shape.proofs.Groups.{some-in, some-out}
-use Rattle.lists.proofs.Rows.{rows-none}
-use Rattle.shape.specs.Counts.{ringLength, inputsPerGroup, outputsPerGroup, kernelCount}
-use Rattle.shape.proofs.Bounds.{reach-le, kernel-le, history-le}
-use Rattle.conv.proofs.Indices.{reach, bias-in, kernel-in, output-in}
-use Rattle.conv.specs.Fits.{PartsFit, ConvFits, BlockFits, TapFits, GroupFits}
-use Rattle.conv.proofs.Rows.{start-turn, row-fits, group-turn, tap-turn}
-use Rattle.conv.specs.Recurrence.{startOf, stepsBack, channelOf, weightIndex, tapFrom, tapsFrom, output}
-use Rattle.lists.specs.Tab.{at, tab, fill, rows}
-use mathlib.Core.Path.{_≡_, refl, sym, _∙_, ap}
-use Prim.Native.Nat.{ℕ, _+_, _*_, _-_, _/_, _%_, _≤_, _<_}
 use native.Mathlib.Omega.{arith}
-use lib.ListN.{length, set, take, drop, length-set}
-use lib.Ieee.{Float, nan, binary32, add, mul}
+use lib.ListN.{length}
 use borrow.Author.Needs.{needs}
+use Rattle.column.proofs.Indices.{inputs-end, group-end}
+use Rattle.shape.proofs.Groups.{some-out}
+use Rattle.lists.proofs.Rows.{rows-none}
+use Rattle.conv.proofs.Rows.{row-fits, group-turn}
+use Rattle.column.specs.Recurrence.{tapFrom}
+use Rattle.lists.specs.Tab.{at, rows}
 use Rattle.conv.proofs.tap_group.Statement.{statement}
 use Rattle.conv.proofs.tap_group.Tie as tie
-use Rattle.conv.proofs.tap_group.Reads as reads
-use Rattle.conv.proofs.tap_group.Lts as lts
-use Rattle.shape.proofs.Shape.inputs_per_group.Reads as inputs-per-group-reads
-use Rattle.shape.proofs.Shape.outputs_per_group.Reads as outputs-per-group-reads
-use Rattle.sums.proofs.add_row.Reads as add-row-reads
 
 abbrev Inv-loop : tie.InvT-loop
 Inv-loop work₀ weights out m from stride n sh k g ipg opg row i₀ work i =
@@ -31,15 +21,12 @@ Inv-loop work₀ weights out m from stride n sh k g ipg opg row i₀ work i =
 abbrev μ-loop : tie.MeasureT-loop
 μ-loop work₀ weights out m from stride n sh k g ipg opg row i₀ work i = opg - i
 
--- src/lib.rt:67:9
 inputs-per-group-requires : tie.Need-inputs-per-group-requires Inv-loop μ-loop
 inputs-per-group-requires c κs = c .before .before .pre .0 .range
 
--- src/lib.rt:68:9
 outputs-per-group-requires : tie.Need-outputs-per-group-requires Inv-loop μ-loop
 outputs-per-group-requires c κs = c .before .before .before .pre .0 .range
 
--- src/lib.rt:69:22
 mul-row : tie.Need-mul-row Inv-loop μ-loop
 mul-row c = 
     let e1 = c .before .inputs-per-group .ensures in
@@ -47,7 +34,6 @@ mul-row c =
     let fit = row-fits (c .before .before .before .before .pre .0) (c .before .before .before .before .args .g) 0 _ _ _ (c .before .before .before .before .pre .1) (rw e2 (some-out (c .before .before .before .before .pre .0 .divided) (c .before .before .before .before .pre .0 .range))) e1 e2 refl in
     omega (arith, fit .inputs .inputs-in 0 (fit .some), rw (sym e1) at (inputs-end (c .before .before .before .before .pre .0 .divided) (c .before .before .before .before .pre .0 .range) (c .before .before .before .before .args .g) (c .before .before .before .before .pre .1)), c .before .before .before .before .pre .0 .range .ins-high)
 
--- src/lib.rt:69:22
 mul-row-2 : tie.Need-mul-row-2 Inv-loop μ-loop
 mul-row-2 c = 
     let e1 = c .before .inputs-per-group .ensures in
@@ -55,7 +41,6 @@ mul-row-2 c =
     let fit = row-fits (c .before .before .before .before .pre .0) (c .before .before .before .before .args .g) 0 _ _ _ (c .before .before .before .before .pre .1) (rw e2 (some-out (c .before .before .before .before .pre .0 .divided) (c .before .before .before .before .pre .0 .range))) e1 e2 refl in
     omega (arith, fit .inputs .inputs-in 0 (fit .some), rw (sym e1) at (inputs-end (c .before .before .before .before .pre .0 .divided) (c .before .before .before .before .pre .0 .range) (c .before .before .before .before .args .g) (c .before .before .before .before .pre .1)), c .before .before .before .before .pre .0 .range .ins-high)
 
--- src/lib.rt:69:15
 add-row : tie.Need-add-row Inv-loop μ-loop
 add-row c = 
     let e1 = c .before .inputs-per-group .ensures in
@@ -63,11 +48,9 @@ add-row c =
     let fit = row-fits (c .before .before .before .before .pre .0) (c .before .before .before .before .args .g) 0 _ _ _ (c .before .before .before .before .pre .1) (rw e2 (some-out (c .before .before .before .before .pre .0 .divided) (c .before .before .before .before .pre .0 .range))) e1 e2 refl in
     omega (arith, fit .inputs .inputs-in 0 (fit .some), rw (sym e1) at (inputs-end (c .before .before .before .before .pre .0 .divided) (c .before .before .before .before .pre .0 .range) (c .before .before .before .before .args .g) (c .before .before .before .before .pre .1)), c .before .before .before .before .pre .0 .range .ins-high)
 
--- src/lib.rt:70:5
 loop-holds : tie.Need-loop-holds Inv-loop μ-loop
 loop-holds c = (search needs, search needs, rows-none _ _ _ _ _)
 
--- src/lib.rt:71:17
 mul-o : tie.Need-mul-o Inv-loop μ-loop
 mul-o c = 
     let e1 = c .before .before .before .inputs-per-group .ensures in
@@ -77,7 +60,6 @@ mul-o c =
     let some-weight = le-mul-of-pos-right {m = c .before .before .before .before .before .before .args .sh .kernel} ((c .before .before .before .before .before .before .args .g * c .before .before .outputs-per-group .result + c .before .loop .i) * c .before .before .before .inputs-per-group .result) (c .before .before .before .before .before .before .pre .0 .range .kernel-low) in
     omega (arith, fit .sums-in, weight, some-weight, rw (sym e2) at (group-end (c .before .before .before .before .before .before .pre .0 .divided) (c .before .before .before .before .before .before .pre .0 .range) (c .before .before .before .before .before .before .args .g) (c .before .before .before .before .before .before .pre .1)), c .before .before .before .before .before .before .pre .0 .range .outs-high, c .loop-test .taken)
 
--- src/lib.rt:71:17
 add-o : tie.Need-add-o Inv-loop μ-loop
 add-o c = 
     let e1 = c .before .before .before .inputs-per-group .ensures in
@@ -87,7 +69,6 @@ add-o c =
     let some-weight = le-mul-of-pos-right {m = c .before .before .before .before .before .before .args .sh .kernel} ((c .before .before .before .before .before .before .args .g * c .before .before .outputs-per-group .result + c .before .loop .i) * c .before .before .before .inputs-per-group .result) (c .before .before .before .before .before .before .pre .0 .range .kernel-low) in
     omega (arith, fit .sums-in, weight, some-weight, rw (sym e2) at (group-end (c .before .before .before .before .before .before .pre .0 .divided) (c .before .before .before .before .before .before .pre .0 .range) (c .before .before .before .before .before .before .args .g) (c .before .before .before .before .before .before .pre .1)), c .before .before .before .before .before .before .pre .0 .range .outs-high, c .loop-test .taken)
 
--- src/lib.rt:73:44
 mul-add-row : tie.Need-mul-add-row Inv-loop μ-loop
 mul-add-row c = 
     let e1 = c .before .before .before .before .inputs-per-group .ensures in
@@ -97,7 +78,6 @@ mul-add-row c =
     let some-weight = le-mul-of-pos-right {m = c .before .before .before .before .before .before .before .args .sh .kernel} ((c .before .before .before .before .before .before .before .args .g * c .before .before .before .outputs-per-group .result + c .before .before .loop .i) * c .before .before .before .before .inputs-per-group .result) (c .before .before .before .before .before .before .before .pre .0 .range .kernel-low) in
     omega (arith, fit .sums-in, weight, some-weight, rw (sym e2) at (group-end (c .before .before .before .before .before .before .before .pre .0 .divided) (c .before .before .before .before .before .before .before .pre .0 .range) (c .before .before .before .before .before .before .before .args .g) (c .before .before .before .before .before .before .before .pre .1)), c .before .before .before .before .before .before .before .pre .0 .range .outs-high, c .before .loop-test .taken)
 
--- src/lib.rt:73:38
 add-add-row : tie.Need-add-add-row Inv-loop μ-loop
 add-add-row c = 
     let e1 = c .before .before .before .before .inputs-per-group .ensures in
@@ -107,7 +87,6 @@ add-add-row c =
     let some-weight = le-mul-of-pos-right {m = c .before .before .before .before .before .before .before .args .sh .kernel} ((c .before .before .before .before .before .before .before .args .g * c .before .before .before .outputs-per-group .result + c .before .before .loop .i) * c .before .before .before .before .inputs-per-group .result) (c .before .before .before .before .before .before .before .pre .0 .range .kernel-low) in
     omega (arith, fit .sums-in, weight, some-weight, rw (sym e2) at (group-end (c .before .before .before .before .before .before .before .pre .0 .divided) (c .before .before .before .before .before .before .before .pre .0 .range) (c .before .before .before .before .before .before .before .args .g) (c .before .before .before .before .before .before .before .pre .1)), c .before .before .before .before .before .before .before .pre .0 .range .outs-high, c .before .loop-test .taken)
 
--- src/lib.rt:73:67
 mul-add-row-2 : tie.Need-mul-add-row-2 Inv-loop μ-loop
 mul-add-row-2 c = 
     let e1 = c .before .before .before .before .inputs-per-group .ensures in
@@ -117,7 +96,6 @@ mul-add-row-2 c =
     let some-weight = le-mul-of-pos-right {m = c .before .before .before .before .before .before .before .args .sh .kernel} ((c .before .before .before .before .before .before .before .args .g * c .before .before .before .outputs-per-group .result + c .before .before .loop .i) * c .before .before .before .before .inputs-per-group .result) (c .before .before .before .before .before .before .before .pre .0 .range .kernel-low) in
     omega (arith, fit .sums-in, weight, some-weight, rw (sym e2) at (group-end (c .before .before .before .before .before .before .before .pre .0 .divided) (c .before .before .before .before .before .before .before .pre .0 .range) (c .before .before .before .before .before .before .before .args .g) (c .before .before .before .before .before .before .before .pre .1)), c .before .before .before .before .before .before .before .pre .0 .range .outs-high, c .before .loop-test .taken)
 
--- src/lib.rt:73:67
 mul-add-row-3 : tie.Need-mul-add-row-3 Inv-loop μ-loop
 mul-add-row-3 c = 
     let e1 = c .before .before .before .before .inputs-per-group .ensures in
@@ -127,7 +105,6 @@ mul-add-row-3 c =
     let some-weight = le-mul-of-pos-right {m = c .before .before .before .before .before .before .before .args .sh .kernel} ((c .before .before .before .before .before .before .before .args .g * c .before .before .before .outputs-per-group .result + c .before .before .loop .i) * c .before .before .before .before .inputs-per-group .result) (c .before .before .before .before .before .before .before .pre .0 .range .kernel-low) in
     omega (arith, fit .sums-in, weight, some-weight, rw (sym e2) at (group-end (c .before .before .before .before .before .before .before .pre .0 .divided) (c .before .before .before .before .before .before .before .pre .0 .range) (c .before .before .before .before .before .before .before .args .g) (c .before .before .before .before .before .before .before .pre .1)), c .before .before .before .before .before .before .before .pre .0 .range .outs-high, c .before .loop-test .taken)
 
--- src/lib.rt:73:67
 add-add-row-2 : tie.Need-add-add-row-2 Inv-loop μ-loop
 add-add-row-2 c = 
     let e1 = c .before .before .before .before .inputs-per-group .ensures in
@@ -137,22 +114,18 @@ add-add-row-2 c =
     let some-weight = le-mul-of-pos-right {m = c .before .before .before .before .before .before .before .args .sh .kernel} ((c .before .before .before .before .before .before .before .args .g * c .before .before .before .outputs-per-group .result + c .before .before .loop .i) * c .before .before .before .before .inputs-per-group .result) (c .before .before .before .before .before .before .before .pre .0 .range .kernel-low) in
     omega (arith, fit .sums-in, weight, some-weight, rw (sym e2) at (group-end (c .before .before .before .before .before .before .before .pre .0 .divided) (c .before .before .before .before .before .before .before .pre .0 .range) (c .before .before .before .before .before .before .before .args .g) (c .before .before .before .before .before .before .before .pre .1)), c .before .before .before .before .before .before .before .pre .0 .range .outs-high, c .before .loop-test .taken)
 
--- src/lib.rt:73:9
 add-row-requires : tie.Need-add-row-requires Inv-loop μ-loop
 add-row-requires c κs = 
     let e1 = c .before .before .before .before .inputs-per-group .ensures in
     let e2 = c .before .before .before .outputs-per-group .ensures in
     row-fits (c .before .before .before .before .before .before .before .pre .0) (c .before .before .before .before .before .before .before .args .g) (c .before .before .loop .i) _ _ _ (c .before .before .before .before .before .before .before .pre .1) (c .before .loop-test .taken) e1 e2 (c .before .before .loop .inv .1)
 
--- src/lib.rt:70:9
 add-i : tie.Need-add-i Inv-loop μ-loop
 add-i c = search needs
 
--- src/lib.rt:70:5
 loop-less : tie.Need-loop-less Inv-loop μ-loop
 loop-less c = search needs
 
--- src/lib.rt:70:5
 loop-again : tie.Need-loop-again Inv-loop μ-loop
 loop-again c = 
     let e1 = c .before .before .before .before .before .before .before .inputs-per-group .ensures in
@@ -163,11 +136,9 @@ loop-again c =
       group-turn (c .before .before .before .before .before .before .before .before .before .before .pre .0) _ (c .before .before .before .before .before .before .before .before .before .before .args .work .now) (c .before .before .before .before .before .loop .work) _ (c .before .before .before .before .before .before .before .before .before .before .args .g) (c .before .before .before .before .before .loop .i) _ _ (c .before .before .before .before .before .before .before .before .before .before .pre .1) (c .before .before .before .before .loop-test .taken) e1 e2 (c .before .before .before .before .before .loop .inv .2) (c .before .before .add-row .ensures),
     )
 
--- src/lib.rt:50:1
 same-length : tie.Need-same-length Inv-loop μ-loop
 same-length c = search needs
 
--- src/lib.rt:50:1
 returns : tie.Need-returns Inv-loop μ-loop
 returns c = let e : c .before .loop .i ≡ c .before .before .outputs-per-group .result = omega arith in rw (c .before .before .outputs-per-group .ensures) at (rw e at (c .before .loop .inv .2))
 

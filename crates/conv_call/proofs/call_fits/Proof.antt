@@ -1,76 +1,53 @@
+use Prim.Native.Nat.{_-_}
 use native.Mathlib.Nat.{mul-le-mul, mul-pos}
-use Rattle.conv.specs.Fits.{ConvFits}
-use Rattle.conv_call.specs.Called.{RegionsFit, CallFits}
-use Rattle.conv_call.proofs.Answers.{no, yes, never, not-yes, not-no}
-use mathlib.Core.Path.{_≡_, refl, sym, _∙_, ap}
-use Prim.Native.Nat.{ℕ, _+_, _*_, _-_, _/_, _%_, _≤_, _<_}
 use native.Mathlib.Omega.{arith}
-use lib.ListN.{length, set, take, drop, length-set}
-use lib.Ieee.{Float, nan, binary32, add, mul}
 use borrow.Author.Needs.{needs}
+use Rattle.conv_call.proofs.Answers.{no, yes, never, not-yes, not-no}
 use Rattle.conv_call.proofs.call_fits.Statement.{statement}
 use Rattle.conv_call.proofs.call_fits.Tie as tie
-use Rattle.conv_call.proofs.call_fits.Reads as reads
-use Rattle.conv_call.proofs.call_fits.Lts as lts
-use Rattle.conv_call.proofs.in_range.Reads as in-range-reads
-use Rattle.conv_call.proofs.parts_fit.Reads as parts-fit-reads
-use Rattle.conv_call.proofs.regions_fit.Reads as regions-fit-reads
-use Rattle.conv_call.proofs.within.Reads as within-reads
 
--- src/lib.rt:147:9
 returns : tie.Need-returns
 returns c = no (λ h. omega (arith, h .bias-is, c .if1 .taken))
 
--- src/lib.rt:149:9
 within-requires : tie.Need-within-requires
 within-requires c κs = search needs
 
--- src/lib.rt:150:9
 returns-2 : tie.Need-returns-2
 returns-2 c = no (λ h. never (c .before .within .ensures) (not-yes _ (c .if2 .taken)) (h .columns-low, h .columns-high))
 
--- src/lib.rt:152:9
 in-range-requires : tie.Need-in-range-requires
 in-range-requires c κs = search needs
 
--- src/lib.rt:153:9
 returns-3 : tie.Need-returns-3
 returns-3 c = no (λ h. never (c .before .in-range .ensures) (not-yes _ (c .if3 .taken)) (h .fits .parts .range))
 
--- src/lib.rt:155:9
 parts-fit-requires : tie.Need-parts-fit-requires
 parts-fit-requires c κs = c .before .in-range .ensures .0 (not-no _ (c .if3 .left))
 
--- src/lib.rt:156:9
 returns-4 : tie.Need-returns-4
 returns-4 c = no (λ h. never (c .before .parts-fit .ensures) (not-yes _ (c .if4 .taken)) (h .fits .parts))
 
--- src/lib.rt:158:28
 mul-regions-fit : tie.Need-mul-regions-fit
 mul-regions-fit c = 
     let r = c .before .before .before .before .in-range .ensures .0 (not-no _ (c .before .before .before .if3 .left)) in
     let m = c .before .before .before .before .before .before .within .ensures .0 (not-no _ (c .before .before .before .before .before .if2 .left)) in
     record { fits = omega (arith, mul-le-mul {n₁ = c .before .before .before .before .before .before .before .before .args .sh .ins} {m₁ = c .before .before .before .before .before .before .before .before .args .m} {n₂ = 128} {m₂ = 1024} (r .ins-high) (m .1)) }
 
--- src/lib.rt:158:40
 mul-regions-fit-2 : tie.Need-mul-regions-fit-2
 mul-regions-fit-2 c = 
     let r = c .before .before .before .before .before .in-range .ensures .0 (not-no _ (c .before .before .before .before .if3 .left)) in
     let m = c .before .before .before .before .before .before .before .within .ensures .0 (not-no _ (c .before .before .before .before .before .before .if2 .left)) in
     record { fits = omega (arith, mul-le-mul {n₁ = c .before .before .before .before .before .before .before .before .before .args .sh .outs} {m₁ = c .before .before .before .before .before .before .before .before .before .args .m} {n₂ = 128} {m₂ = 1024} (r .outs-high) (m .1)) }
 
--- src/lib.rt:158:9
 regions-fit-requires : tie.Need-regions-fit-requires
 regions-fit-requires c κs = 
     let r = c .before .before .before .before .before .in-range .ensures .0 (not-no _ (c .before .before .before .before .if3 .left)) in
     let m = c .before .before .before .before .before .before .before .within .ensures .0 (not-no _ (c .before .before .before .before .before .before .if2 .left)) in
     (mul-pos (r .ins-low) (m .0), mul-pos (r .outs-low) (m .0))
 
--- src/lib.rt:159:9
 returns-5 : tie.Need-returns-5
 returns-5 c = no (λ h. never (c .before .regions-fit .ensures) (not-yes _ (c .if5 .taken)) (record { x-in = h .fits .x-in; out-in = h .fits .out-in; rows-in = h .fits .rows-in; out-x = h .fits .out-x; out-rows = h .fits .out-rows; rows-x = h .fits .rows-x }))
 
--- src/lib.rt:132:1
 returns-6 : tie.Need-returns-6
 returns-6 c = 
     let r = c .before .before .before .before .before .before .before .in-range .ensures .0 (not-no _ (c .before .before .before .before .before .before .if3 .left)) in

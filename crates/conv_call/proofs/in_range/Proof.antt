@@ -1,58 +1,39 @@
-use Rattle.shape.specs.Counts.{InRange}
-use Rattle.conv_call.proofs.Answers.{no, yes, never, not-yes, not-no}
-use mathlib.Core.Path.{_≡_, refl, sym, _∙_, ap}
-use Prim.Native.Nat.{ℕ, _+_, _*_, _-_, _/_, _%_, _≤_, _<_}
-use native.Mathlib.Omega.{arith}
-use lib.ListN.{length, set, take, drop, length-set}
-use lib.Ieee.{Float, nan, binary32, add, mul}
+use Prim.Native.Nat.{_-_}
 use borrow.Author.Needs.{needs}
+use Rattle.conv_call.proofs.Answers.{no, yes, never, not-yes, not-no}
 use Rattle.conv_call.proofs.in_range.Statement.{statement}
 use Rattle.conv_call.proofs.in_range.Tie as tie
-use Rattle.conv_call.proofs.in_range.Reads as reads
-use Rattle.conv_call.proofs.in_range.Lts as lts
-use Rattle.conv_call.proofs.within.Reads as within-reads
 
--- src/lib.rt:65:9
 within-requires : tie.Need-within-requires
 within-requires c κs = search needs
 
--- src/lib.rt:66:9
 returns : tie.Need-returns
 returns c = no (λ h. never (c .before .within .ensures) (not-yes _ (c .if1 .taken)) (h .ins-low, h .ins-high))
 
--- src/lib.rt:68:9
 within-requires-2 : tie.Need-within-requires-2
 within-requires-2 c κs = search needs
 
--- src/lib.rt:69:9
 returns-2 : tie.Need-returns-2
 returns-2 c = no (λ h. never (c .before .within2 .ensures) (not-yes _ (c .if2 .taken)) (h .outs-low, h .outs-high))
 
--- src/lib.rt:71:9
 within-requires-3 : tie.Need-within-requires-3
 within-requires-3 c κs = search needs
 
--- src/lib.rt:72:9
 returns-3 : tie.Need-returns-3
 returns-3 c = no (λ h. never (c .before .within3 .ensures) (not-yes _ (c .if3 .taken)) (h .kernel-low, h .kernel-high))
 
--- src/lib.rt:74:9
 within-requires-4 : tie.Need-within-requires-4
 within-requires-4 c κs = search needs
 
--- src/lib.rt:75:9
 returns-4 : tie.Need-returns-4
 returns-4 c = no (λ h. never (c .before .within4 .ensures) (not-yes _ (c .if4 .taken)) (h .dilation-low, h .dilation-high))
 
--- src/lib.rt:77:9
 within-requires-5 : tie.Need-within-requires-5
 within-requires-5 c κs = search needs
 
--- src/lib.rt:78:9
 returns-5 : tie.Need-returns-5
 returns-5 c = no (λ h. never (c .before .within5 .ensures) (not-yes _ (c .if5 .taken)) (h .groups-low, h .groups-high))
 
--- src/lib.rt:57:1
 returns-6 : tie.Need-returns-6
 returns-6 c = yes (record { ins-low = c .before .before .before .before .before .before .before .before .before .within .ensures .0 (not-no _ (c .before .before .before .before .before .before .before .before .if1 .left)) .0; ins-high = c .before .before .before .before .before .before .before .before .before .within .ensures .0 (not-no _ (c .before .before .before .before .before .before .before .before .if1 .left)) .1; outs-low = c .before .before .before .before .before .before .before .within2 .ensures .0 (not-no _ (c .before .before .before .before .before .before .if2 .left)) .0; outs-high = c .before .before .before .before .before .before .before .within2 .ensures .0 (not-no _ (c .before .before .before .before .before .before .if2 .left)) .1; kernel-low = c .before .before .before .before .before .within3 .ensures .0 (not-no _ (c .before .before .before .before .if3 .left)) .0; kernel-high = c .before .before .before .before .before .within3 .ensures .0 (not-no _ (c .before .before .before .before .if3 .left)) .1; dilation-low = c .before .before .before .within4 .ensures .0 (not-no _ (c .before .before .if4 .left)) .0; dilation-high = c .before .before .before .within4 .ensures .0 (not-no _ (c .before .before .if4 .left)) .1; groups-low = c .before .within5 .ensures .0 (not-no _ (c .if5 .left)) .0; groups-high = c .before .within5 .ensures .0 (not-no _ (c .if5 .left)) .1 })
 

@@ -1,18 +1,14 @@
-use Rattle.history.proofs.Turns.{column-end, store-turn, fetch-place, fetch-turn, copy-turn, gather-is}
-use Rattle.history.specs.Fits.{StoreFits, FetchFits, CopyFits, GatherFits}
-use Rattle.lists.proofs.Rows.{rows-none, rows-cell, rows-more, length-rows}
-use Rattle.lists.specs.Tab.{at, tab, fill, rows}
-use mathlib.Core.Path.{_≡_, refl, sym, _∙_, ap}
-use Prim.Native.Nat.{ℕ, _+_, _*_, _-_, _/_, _%_, _≤_, _<_}
+use mathlib.Core.Path.{_≡_}
+use Prim.Native.Nat.{_+_, _*_, _-_, _≤_}
 use native.Mathlib.Omega.{arith}
-use lib.ListN.{length, set, take, drop, length-set}
-use lib.Ieee.{Float, nan, binary32, add, mul}
+use lib.ListN.{length}
 use borrow.Author.Needs.{needs}
+use Rattle.history.proofs.Turns.{copy-turn}
+use Rattle.history.specs.Fits.{CopyFits}
+use Rattle.lists.proofs.Rows.{rows-none}
+use Rattle.lists.specs.Tab.{at, rows}
 use Rattle.history.proofs.copy_rows.Statement.{statement}
 use Rattle.history.proofs.copy_rows.Tie as tie
-use Rattle.history.proofs.copy_rows.Reads as reads
-use Rattle.history.proofs.copy_rows.Lts as lts
-use Rattle.history.proofs.copy.Reads as copy-reads
 
 abbrev Inv-loop : tie.InvT-loop
 Inv-loop work₀ to step from stride w n c₀ work c =
@@ -22,42 +18,33 @@ Inv-loop work₀ to step from stride w n c₀ work c =
 abbrev μ-loop : tie.MeasureT-loop
 μ-loop work₀ to step from stride w n c₀ work c = w - c
 
--- src/lib.rt:125:5
 loop-holds : tie.Need-loop-holds Inv-loop μ-loop
 loop-holds c = (search needs, search needs, c .before .pre, rows-none _ _ _ _ _)
 
--- src/lib.rt:126:25
 mul-copy : tie.Need-mul-copy Inv-loop μ-loop
 mul-copy c = omega (arith, c .before .before .loop .inv .2 .to-in (c .before .before .loop .c) (c .before .loop-test .taken), c .before .before .loop .inv .2 .from-in (c .before .before .loop .c) (c .before .loop-test .taken))
 
--- src/lib.rt:126:20
 add-copy : tie.Need-add-copy Inv-loop μ-loop
 add-copy c = omega (arith, c .before .before .loop .inv .2 .to-in (c .before .before .loop .c) (c .before .loop-test .taken), c .before .before .loop .inv .2 .from-in (c .before .before .loop .c) (c .before .loop-test .taken))
 
--- src/lib.rt:126:42
 mul-copy-2 : tie.Need-mul-copy-2 Inv-loop μ-loop
 mul-copy-2 c = omega (arith, c .before .before .loop .inv .2 .to-in (c .before .before .loop .c) (c .before .loop-test .taken), c .before .before .loop .inv .2 .from-in (c .before .before .loop .c) (c .before .loop-test .taken))
 
--- src/lib.rt:126:35
 add-copy-2 : tie.Need-add-copy-2 Inv-loop μ-loop
 add-copy-2 c = omega (arith, c .before .before .loop .inv .2 .to-in (c .before .before .loop .c) (c .before .loop-test .taken), c .before .before .loop .inv .2 .from-in (c .before .before .loop .c) (c .before .loop-test .taken))
 
--- src/lib.rt:126:9
 copy-requires : tie.Need-copy-requires Inv-loop μ-loop
 copy-requires c κs = 
     let f = c .before .before .loop .inv .2 in
     let lt = c .before .loop-test .taken in
     (omega (arith, f .to-in _ lt, c .before .before .loop .inv .1), omega (arith, f .from-in _ lt, c .before .before .loop .inv .1), f .apart _ _ lt lt)
 
--- src/lib.rt:125:9
 add-c : tie.Need-add-c Inv-loop μ-loop
 add-c c = search needs
 
--- src/lib.rt:125:5
 loop-less : tie.Need-loop-less Inv-loop μ-loop
 loop-less c = search needs
 
--- src/lib.rt:125:5
 loop-again : tie.Need-loop-again Inv-loop μ-loop
 loop-again c = (
       search needs,
@@ -66,11 +53,9 @@ loop-again c = (
       copy-turn _ _ _ _ _ _ _ (c .before .before .before .before .before .before .before .args .work .now) (c .before .before .before .before .before .loop .work) _ (c .before .before .before .before .before .loop .inv .2) (c .before .before .before .before .loop-test .taken) (c .before .before .before .before .before .loop .inv .3) (c .before .before .copy .ensures),
     )
 
--- src/lib.rt:113:1
 same-length : tie.Need-same-length Inv-loop μ-loop
 same-length c = search needs
 
--- src/lib.rt:113:1
 returns : tie.Need-returns Inv-loop μ-loop
 returns c = let e : c .before .loop .c ≡ c .before .before .before .args .w = omega arith in rw e at (c .before .loop .inv .3)
 

@@ -1,26 +1,19 @@
+use mathlib.Core.Path.{_≡_, _∙_, ap}
+use Prim.Native.Nat.{ℕ, _-_, _≤_, _<_}
+use native.Mathlib.Omega.{arith}
+use lib.ListN.{length}
+use borrow.Author.Needs.{needs}
 use Rattle.lists.proofs.Rows.{rows-narrow}
 use Rattle.lists.proofs.Nums.{row-end}
 use Rattle.ring.specs.declared.Ring.{Ring}
 use Rattle.ring.proofs.Places.{next-lt, back-lt}
 use Rattle.ring.specs.Place.{nextPlace, placeBack}
-use Rattle.ring.specs.Memory.{Memory, past, after, seen}
+use Rattle.ring.specs.Memory.{past}
 use Rattle.history.proofs.Turns.{column-end, fetch-place, fetch-turn}
-use Rattle.history.specs.Fits.{StoreFits, FetchFits, CopyFits, GatherFits}
-use Rattle.lists.proofs.Rows.{rows-none, length-rows}
-use Rattle.lists.specs.Tab.{at, tab, fill, rows}
-use mathlib.Core.Path.{_≡_, refl, sym, _∙_, ap}
-use Prim.Native.Nat.{ℕ, _+_, _*_, _-_, _/_, _%_, _≤_, _<_}
-use native.Mathlib.Omega.{arith}
-use lib.ListN.{length, set, take, drop, length-set}
-use lib.Ieee.{Float, nan, binary32, add, mul}
-use borrow.Author.Needs.{needs}
+use Rattle.history.specs.Fits.{FetchFits}
+use Rattle.lists.specs.Tab.{at, rows}
 use Rattle.history.proofs.fetch.Statement.{statement}
 use Rattle.history.proofs.fetch.Tie as tie
-use Rattle.history.proofs.fetch.Reads as reads
-use Rattle.history.proofs.fetch.Lts as lts
-use Rattle.history.proofs.fetch_column.Reads as fetch-column-reads
-use Rattle.ring.proofs.Ring.back.Reads as back-reads
-use Rattle.ring.proofs.Ring.next.Reads as next-reads
 
 abbrev Inv-loop : tie.InvT-loop
 Inv-loop work₀ history to stride ins back n len first place₀ t₀ work place t =
@@ -32,11 +25,9 @@ Inv-loop work₀ history to stride ins back n len first place₀ t₀ work place
 abbrev μ-loop : tie.MeasureT-loop
 μ-loop work₀ history to stride ins back n len first place₀ t₀ work place t = n - t
 
--- src/lib.rt:93:9
 back-requires : tie.Need-back-requires Inv-loop μ-loop
 back-requires c κs = (c .before .before .pre .place-in, c .before .before .pre .back-in)
 
--- src/lib.rt:95:5
 loop-holds : tie.Need-loop-holds Inv-loop μ-loop
 loop-holds c = 
     let f = c .before .before .before .pre in
@@ -44,15 +35,12 @@ loop-holds c =
     let none : c .before .before .before .args .back ≡ c .before .before .before .args .back - 0 = omega arith in
     (search needs, search needs, search needs, here, λ p e lt g. (e ∙ ap (λ (k : ℕ). placeBack (c .before .before .before .args .ring .len) p k) none, rows-narrow _ _ _ _ _))
 
--- src/lib.rt:96:9
 next-requires : tie.Need-next-requires Inv-loop μ-loop
 next-requires c κs = rw (c .before .loop .inv .2) (c .before .loop .inv .3)
 
--- src/lib.rt:98:37
 add-fetch-column : tie.Need-add-fetch-column Inv-loop μ-loop
 add-fetch-column c = omega (arith, c .before .before .before .before .before .before .before .pre .rows-in, row-end 0 (c .before .before .before .before .before .before .before .args .ins) (c .before .before .before .before .before .before .before .args .stride) (c .before .before .before .before .before .before .before .pre .some), c .before .before .before .before .before .before .before .pre .narrow, c .before .before .loop-test .taken)
 
--- src/lib.rt:98:53
 mul-fetch-column : tie.Need-mul-fetch-column Inv-loop μ-loop
 mul-fetch-column c = 
     let l = c .before .before .before .loop in
@@ -64,7 +52,6 @@ mul-fetch-column c =
     let end = column-end (c .before .before .before .before .before .before .before .args .ins) len (c .before .next .result .at) _ lt (f .history-is) in
     omega (arith, end)
 
--- src/lib.rt:98:9
 fetch-column-requires : tie.Need-fetch-column-requires Inv-loop μ-loop
 fetch-column-requires c κs = 
     let l = c .before .before .before .loop in
@@ -76,15 +63,12 @@ fetch-column-requires c κs =
     let end = column-end (c .before .before .before .before .before .before .before .args .ins) len (c .before .next .result .at) _ lt (f .history-is) in
     (omega (arith, end), λ j hj. omega (arith, f .rows-in, f .narrow, row-end j (c .before .before .before .before .before .before .before .args .ins) (c .before .before .before .before .before .before .before .args .stride) hj, l .inv .1, c .before .before .loop-test .taken))
 
--- src/lib.rt:95:9
 add-t : tie.Need-add-t Inv-loop μ-loop
 add-t c = search needs
 
--- src/lib.rt:95:5
 loop-less : tie.Need-loop-less Inv-loop μ-loop
 loop-less c = search needs
 
--- src/lib.rt:95:5
 loop-again : tie.Need-loop-again Inv-loop μ-loop
 loop-again c = 
     let l = c .before .before .before .before .before .before .loop in
@@ -106,11 +90,9 @@ loop-again c =
           (q, fetch-turn _ _ _ _ _ _ _ (l .t) _ _ (c .before .before .before .before .before .before .before .before .before .before .args .work .now) (l .work) _ g (c .before .before .before .before .before .loop-test .taken) q (was .1) (c .before .before .fetch-column .ensures)),
     )
 
--- src/lib.rt:78:1
 same-length : tie.Need-same-length Inv-loop μ-loop
 same-length c = search needs
 
--- src/lib.rt:78:1
 returns : tie.Need-returns Inv-loop μ-loop
 returns c = let e : c .before .loop .t ≡ c .before .before .before .before .before .args .n = omega arith in rw e at (c .before .loop .inv .4 (c .before .before .before .before .before .args .ring .at) (c .before .before .back .ensures) (c .before .before .before .before .before .pre .place-in) (c .before .before .before .before .before .pre) .1)
 

@@ -1,23 +1,17 @@
+use mathlib.Core.Path.{_≡_, sym, _∙_, ap}
+use Prim.Native.Nat.{ℕ, _+_, _*_, _-_, _≤_, _<_}
+use native.Mathlib.Omega.{arith}
+use lib.ListN.{length}
+use borrow.Author.Needs.{needs}
 use Rattle.ring.proofs.Blocks.{after-none}
 use Rattle.ring.specs.declared.Ring.{Ring}
-use Rattle.ring.proofs.Places.{next-lt, back-lt}
-use Rattle.ring.specs.Place.{nextPlace, placeBack}
-use Rattle.ring.specs.Memory.{Memory, past, after, seen}
-use Rattle.history.proofs.Turns.{column-end, store-turn, fetch-place, fetch-turn, copy-turn, gather-is}
-use Rattle.history.specs.Fits.{StoreFits, FetchFits, CopyFits, GatherFits}
-use Rattle.lists.specs.Tab.{at, tab, fill, rows}
-use mathlib.Core.Path.{_≡_, refl, sym, _∙_, ap}
-use Prim.Native.Nat.{ℕ, _+_, _*_, _-_, _/_, _%_, _≤_, _<_}
-use native.Mathlib.Omega.{arith}
-use lib.ListN.{length, set, take, drop, length-set}
-use lib.Ieee.{Float, nan, binary32, add, mul}
-use borrow.Author.Needs.{needs}
+use Rattle.ring.proofs.Places.{next-lt}
+use Rattle.ring.specs.Place.{nextPlace}
+use Rattle.ring.specs.Memory.{after}
+use Rattle.history.proofs.Turns.{column-end, store-turn}
+use Rattle.lists.specs.Tab.{at}
 use Rattle.history.proofs.store.Statement.{statement}
 use Rattle.history.proofs.store.Tie as tie
-use Rattle.history.proofs.store.Reads as reads
-use Rattle.history.proofs.store.Lts as lts
-use Rattle.history.proofs.store_column.Reads as store-column-reads
-use Rattle.ring.proofs.Ring.next.Reads as next-reads
 
 abbrev Inv-loop : tie.InvT-loop
 Inv-loop history₀ work x stride ins n place₀ t₀ history place t =
@@ -27,15 +21,12 @@ Inv-loop history₀ work x stride ins n place₀ t₀ history place t =
 abbrev μ-loop : tie.MeasureT-loop
 μ-loop history₀ work x stride ins n place₀ t₀ history place t = n - t
 
--- src/lib.rt:52:5
 loop-holds : tie.Need-loop-holds Inv-loop μ-loop
 loop-holds c = (search needs, search needs, search needs, c .before .before .pre .place-in, sym (after-none _ _ _ _))
 
--- src/lib.rt:53:9
 next-requires : tie.Need-next-requires Inv-loop μ-loop
 next-requires c κs = rw (c .before .loop .inv .2) (c .before .loop .inv .3)
 
--- src/lib.rt:55:37
 mul-store-column : tie.Need-mul-store-column Inv-loop μ-loop
 mul-store-column c = 
     let l = c .before .before .before .loop in
@@ -45,11 +36,9 @@ mul-store-column c =
     let end = column-end (c .before .before .before .before .before .before .args .ins) len (c .before .next .result .at) _ lt (c .before .before .before .before .before .before .pre .history-is) in
     omega (arith, end)
 
--- src/lib.rt:55:47
 add-store-column : tie.Need-add-store-column Inv-loop μ-loop
 add-store-column c = omega (arith, c .before .before .before .before .before .before .pre .block-in 0 (c .before .before .before .before .before .before .pre .some), c .before .before .loop-test .taken)
 
--- src/lib.rt:55:9
 store-column-requires : tie.Need-store-column-requires Inv-loop μ-loop
 store-column-requires c κs = 
     let l = c .before .before .before .loop in
@@ -59,15 +48,12 @@ store-column-requires c κs =
     let end = column-end (c .before .before .before .before .before .before .args .ins) len (c .before .next .result .at) _ lt (c .before .before .before .before .before .before .pre .history-is) in
     (omega (arith, end, l .inv .1), λ j hj. omega (arith, c .before .before .before .before .before .before .pre .block-in j hj, c .before .before .loop-test .taken))
 
--- src/lib.rt:52:9
 add-t : tie.Need-add-t Inv-loop μ-loop
 add-t c = search needs
 
--- src/lib.rt:52:5
 loop-less : tie.Need-loop-less Inv-loop μ-loop
 loop-less c = search needs
 
--- src/lib.rt:52:5
 loop-again : tie.Need-loop-again Inv-loop μ-loop
 loop-again c = 
     let l = c .before .before .before .before .before .before .loop in
@@ -84,11 +70,9 @@ loop-again c =
       store-turn _ len (l .t) _ _ (l .history) _ (l .place .at) _ _ (l .inv .4) to (c .before .before .store-column .ensures) (λ j hj. ap (at (c .before .before .before .before .before .before .before .before .before .args .work .now)) (same j)),
     )
 
--- src/lib.rt:37:1
 same-length : tie.Need-same-length Inv-loop μ-loop
 same-length c = search needs
 
--- src/lib.rt:37:1
 returns : tie.Need-returns Inv-loop μ-loop
 returns c = let e : c .before .loop .t ≡ c .before .before .before .before .args .n = omega arith in (rw e at (c .before .loop .inv .4), c .before .loop .inv .2)
 

@@ -1,15 +1,13 @@
-use Rattle.lists.proofs.Fill.{fill-none, fill-turn, fill-step, fill-apart, fill-all, length-fill}
-use Rattle.lists.specs.Tab.{at, tab, fill, rows}
-use mathlib.Core.Path.{_≡_, refl, sym, _∙_, ap}
-use Prim.Native.Nat.{ℕ, _+_, _*_, _-_, _/_, _%_, _≤_, _<_}
+use mathlib.Core.Path.{_≡_, sym, _∙_}
+use Prim.Native.Nat.{_+_, _-_, _≤_}
 use native.Mathlib.Omega.{arith}
-use lib.ListN.{length, set, take, drop, length-set}
-use lib.Ieee.{Float, nan, binary32, add, mul}
+use lib.ListN.{length}
+use lib.Ieee.{nan, binary32, add, mul}
 use borrow.Author.Needs.{needs}
+use Rattle.lists.proofs.Fill.{fill-none, fill-step, fill-apart, fill-all}
+use Rattle.lists.specs.Tab.{at, fill}
 use Rattle.sums.proofs.add_input.Statement.{statement}
 use Rattle.sums.proofs.add_input.Tie as tie
-use Rattle.sums.proofs.add_input.Reads as reads
-use Rattle.sums.proofs.add_input.Lts as lts
 
 abbrev Inv-loop : tie.InvT-loop
 Inv-loop work from w r₀ i₀ r i =
@@ -18,51 +16,39 @@ Inv-loop work from w r₀ i₀ r i =
 abbrev μ-loop : tie.MeasureT-loop
 μ-loop work from w r₀ i₀ r i = 16 - i
 
--- src/lib.rt:40:5
 loop-holds : tie.Need-loop-holds Inv-loop μ-loop
 loop-holds c = (search needs, search needs, search needs, sym (fill-none _ _ _))
 
--- src/lib.rt:41:16
 mul-r : tie.Need-mul-r Inv-loop μ-loop
 mul-r c = search needs
 
--- src/lib.rt:41:16
 array-read-r : tie.Need-array-read-r Inv-loop μ-loop
 array-read-r c = search needs
 
--- src/lib.rt:41:32
 add-r : tie.Need-add-r Inv-loop μ-loop
 add-r c = search needs
 
--- src/lib.rt:41:27
 mul-r-2 : tie.Need-mul-r-2 Inv-loop μ-loop
 mul-r-2 c = search needs
 
--- src/lib.rt:41:27
 shared-slice-read-r : tie.Need-shared-slice-read-r Inv-loop μ-loop
 shared-slice-read-r c = search needs
 
--- src/lib.rt:41:9
 mul-r-3 : tie.Need-mul-r-3 Inv-loop μ-loop
 mul-r-3 c = search needs
 
--- src/lib.rt:41:9
 array-write-r : tie.Need-array-write-r Inv-loop μ-loop
 array-write-r c = search needs
 
--- src/lib.rt:40:9
 add-i : tie.Need-add-i Inv-loop μ-loop
 add-i c = search needs
 
--- src/lib.rt:40:5
 loop-less : tie.Need-loop-less Inv-loop μ-loop
 loop-less c = search needs
 
--- src/lib.rt:40:5
 loop-again : tie.Need-loop-again Inv-loop μ-loop
 loop-again c = (search needs, search needs, search needs, fill-step _ _ _ _ _ (c .before .before .loop .inv .3) (rw (fill-apart nan _ _ (c .before .before .loop .i) _ _ _ (c .before .before .loop .inv .3) (omega arith))))
 
--- src/lib.rt:35:1
 returns : tie.Need-returns Inv-loop μ-loop
 returns c = let e : c .before .loop .i ≡ 16 = omega arith in (rw e at (c .before .loop .inv .3)) ∙ fill-all nan _ _ _ (c .before .loop .inv .1)
 

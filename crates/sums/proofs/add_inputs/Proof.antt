@@ -1,20 +1,16 @@
-use Rattle.lists.proofs.Tab.{length-tab}
-use Rattle.sums.specs.Fits.{InputsFit, RowFits, OutputsFit}
-use Rattle.sums.specs.Product.{product}
-use Rattle.sums.proofs.Lanes.{lanes-none, lanes-more, row-turn}
-use Rattle.single.specs.Sum.{sumFrom}
-use Rattle.lists.specs.Tab.{at, tab, fill, rows}
-use mathlib.Core.Path.{_≡_, refl, sym, _∙_, ap}
-use Prim.Native.Nat.{ℕ, _+_, _*_, _-_, _/_, _%_, _≤_, _<_}
+use mathlib.Core.Path.{_≡_, _∙_, ap}
+use Prim.Native.Nat.{_+_, _*_, _-_, _≤_}
 use native.Mathlib.Omega.{arith}
-use lib.ListN.{length, set, take, drop, length-set}
-use lib.Ieee.{Float, nan, binary32, add, mul}
+use lib.ListN.{length}
 use borrow.Author.Needs.{needs}
+use Rattle.lists.proofs.Tab.{length-tab}
+use Rattle.sums.specs.Fits.{InputsFit}
+use Rattle.sums.specs.Product.{product}
+use Rattle.sums.proofs.Lanes.{lanes-none, lanes-more}
+use Rattle.single.specs.Sum.{sumFrom}
+use Rattle.lists.specs.Tab.{at, tab}
 use Rattle.sums.proofs.add_inputs.Statement.{statement}
 use Rattle.sums.proofs.add_inputs.Tie as tie
-use Rattle.sums.proofs.add_inputs.Reads as reads
-use Rattle.sums.proofs.add_inputs.Lts as lts
-use Rattle.sums.proofs.add_input.Reads as add-input-reads
 
 abbrev Inv-loop : tie.InvT-loop
 Inv-loop work weights from stride w step many r₀ j₀ r j =
@@ -24,47 +20,36 @@ Inv-loop work weights from stride w step many r₀ j₀ r j =
 abbrev μ-loop : tie.MeasureT-loop
 μ-loop work weights from stride w step many r₀ j₀ r j = many - j
 
--- src/lib.rt:62:5
 loop-holds : tie.Need-loop-holds Inv-loop μ-loop
 loop-holds c = (search needs, search needs, c .before .before .pre, lanes-none 16 _ _ (search needs))
 
--- src/lib.rt:63:46
 mul-add-input : tie.Need-mul-add-input Inv-loop μ-loop
 mul-add-input c = omega (arith, c .before .loop .inv .2 .inputs-in (c .before .loop .j) (c .loop-test .taken), c .before .loop .inv .2 .weights-in (c .before .loop .j) (c .loop-test .taken))
 
--- src/lib.rt:63:39
 add-add-input : tie.Need-add-add-input Inv-loop μ-loop
 add-add-input c = omega (arith, c .before .loop .inv .2 .inputs-in (c .before .loop .j) (c .loop-test .taken), c .before .loop .inv .2 .weights-in (c .before .loop .j) (c .loop-test .taken))
 
--- src/lib.rt:63:70
 mul-add-input-2 : tie.Need-mul-add-input-2 Inv-loop μ-loop
 mul-add-input-2 c = omega (arith, c .before .loop .inv .2 .inputs-in (c .before .loop .j) (c .loop-test .taken), c .before .loop .inv .2 .weights-in (c .before .loop .j) (c .loop-test .taken))
 
--- src/lib.rt:63:66
 add-add-input-2 : tie.Need-add-add-input-2 Inv-loop μ-loop
 add-add-input-2 c = omega (arith, c .before .loop .inv .2 .inputs-in (c .before .loop .j) (c .loop-test .taken), c .before .loop .inv .2 .weights-in (c .before .loop .j) (c .loop-test .taken))
 
--- src/lib.rt:63:58
 mul-add-input-3 : tie.Need-mul-add-input-3 Inv-loop μ-loop
 mul-add-input-3 c = omega (arith, c .before .loop .inv .2 .inputs-in (c .before .loop .j) (c .loop-test .taken), c .before .loop .inv .2 .weights-in (c .before .loop .j) (c .loop-test .taken))
 
--- src/lib.rt:63:58
 shared-slice-read-add-input : tie.Need-shared-slice-read-add-input Inv-loop μ-loop
 shared-slice-read-add-input c = omega (arith, c .before .before .loop .inv .2 .inputs-in (c .before .before .loop .j) (c .before .loop-test .taken), c .before .before .loop .inv .2 .weights-in (c .before .before .loop .j) (c .before .loop-test .taken))
 
--- src/lib.rt:63:13
 add-input-requires : tie.Need-add-input-requires Inv-loop μ-loop
 add-input-requires c κs = c .before .before .loop .inv .2 .inputs-in (c .before .before .loop .j) (c .before .loop-test .taken)
 
--- src/lib.rt:62:9
 add-j : tie.Need-add-j Inv-loop μ-loop
 add-j c = search needs
 
--- src/lib.rt:62:5
 loop-less : tie.Need-loop-less Inv-loop μ-loop
 loop-less c = search needs
 
--- src/lib.rt:62:5
 loop-again : tie.Need-loop-again Inv-loop μ-loop
 unfolding product
 loop-again c = (
@@ -74,7 +59,6 @@ loop-again c = (
       lanes-more 16 (c .before .before .before .loop .j) _ _ (c .before .before .before .loop .r) _ (c .before .before .before .loop .inv .3) (c .add-input .ensures),
     )
 
--- src/lib.rt:47:1
 returns : tie.Need-returns Inv-loop μ-loop
 returns c = let e : c .before .loop .j ≡ c .before .before .before .before .args .many = omega arith in rw e at (c .before .loop .inv .3)
 

@@ -1,18 +1,13 @@
-use Rattle.lists.specs.Tab.{at, tab, fill, rows}
-use Rattle.sums.specs.Fits.{InputsFit, RowFits, OutputsFit}
+use mathlib.Core.Path.{_≡_, sym}
+use Prim.Native.Nat.{_+_, _-_, _≤_}
+use native.Mathlib.Omega.{arith}
+use borrow.Author.Needs.{needs}
+use Rattle.lists.specs.Tab.{at}
 use Rattle.sums.specs.Product.{product}
 use Rattle.single.proofs.Sum.{sum-none, sum-more}
 use Rattle.single.specs.Sum.{sumFrom}
-use mathlib.Core.Path.{_≡_, refl, sym, _∙_, ap}
-use Prim.Native.Nat.{ℕ, _+_, _*_, _-_, _/_, _%_, _≤_, _<_}
-use native.Mathlib.Omega.{arith}
-use lib.ListN.{length, set, take, drop, length-set}
-use lib.Ieee.{Float, nan, binary32, add, mul}
-use borrow.Author.Needs.{needs}
 use Rattle.sums.proofs.add_output.Statement.{statement}
 use Rattle.sums.proofs.add_output.Tie as tie
-use Rattle.sums.proofs.add_output.Reads as reads
-use Rattle.sums.proofs.add_output.Lts as lts
 
 abbrev Inv-loop : tie.InvT-loop
 Inv-loop sum values weights from w step many r₀ j₀ r j =
@@ -21,52 +16,40 @@ Inv-loop sum values weights from w step many r₀ j₀ r j =
 abbrev μ-loop : tie.MeasureT-loop
 μ-loop sum values weights from w step many r₀ j₀ r j = many - j
 
--- src/lib.rt:151:5
 loop-holds : tie.Need-loop-holds Inv-loop μ-loop
 loop-holds c = (search needs, sym (sum-none _ _))
 
--- src/lib.rt:152:29
 mul-r : tie.Need-mul-r Inv-loop μ-loop
 mul-r c = omega (arith, c .before .before .pre .weights-in 0 (c .before .loop .j) (omega arith) (c .loop-test .taken))
 
--- src/lib.rt:152:25
 add-r : tie.Need-add-r Inv-loop μ-loop
 add-r c = omega (arith, c .before .before .pre .weights-in 0 (c .before .loop .j) (omega arith) (c .loop-test .taken))
 
--- src/lib.rt:152:17
 mul-r-2 : tie.Need-mul-r-2 Inv-loop μ-loop
 mul-r-2 c = omega (arith, c .before .before .pre .weights-in 0 (c .before .loop .j) (omega arith) (c .loop-test .taken))
 
--- src/lib.rt:152:17
 shared-slice-read-r : tie.Need-shared-slice-read-r Inv-loop μ-loop
 shared-slice-read-r c = omega (arith, c .before .before .before .pre .weights-in 0 (c .before .before .loop .j) (omega arith) (c .before .loop-test .taken))
 
--- src/lib.rt:152:48
 add-r-2 : tie.Need-add-r-2 Inv-loop μ-loop
 add-r-2 c = omega (arith, c .before .before .before .pre .weights-in 0 (c .before .before .loop .j) (omega arith) (c .before .loop-test .taken))
 
--- src/lib.rt:152:41
 mul-r-3 : tie.Need-mul-r-3 Inv-loop μ-loop
 mul-r-3 c = omega (arith, c .before .before .before .pre .weights-in 0 (c .before .before .loop .j) (omega arith) (c .before .loop-test .taken))
 
--- src/lib.rt:152:41
 shared-slice-read-r-2 : tie.Need-shared-slice-read-r-2 Inv-loop μ-loop
 shared-slice-read-r-2 c = omega (arith, c .before .before .before .before .pre .weights-in 0 (c .before .before .before .loop .j) (omega arith) (c .before .before .loop-test .taken))
 
--- src/lib.rt:151:9
 add-j : tie.Need-add-j Inv-loop μ-loop
 add-j c = search needs
 
--- src/lib.rt:151:5
 loop-less : tie.Need-loop-less Inv-loop μ-loop
 loop-less c = search needs
 
--- src/lib.rt:151:5
 loop-again : tie.Need-loop-again Inv-loop μ-loop
 unfolding product
 loop-again c = (search needs, rw (c .before .before .before .loop .inv .1) (sum-more _ (c .before .before .before .loop .j) _))
 
--- src/lib.rt:138:1
 returns : tie.Need-returns Inv-loop μ-loop
 returns c = let e : c .before .loop .j ≡ c .before .before .args .many = omega arith in rw e at (c .before .loop .inv .1)
 

@@ -1,21 +1,17 @@
-use Rattle.lists.proofs.Tab.{tab-ext}
-use Rattle.lists.proofs.Tab.{length-tab}
-use Rattle.sums.specs.Fits.{InputsFit, RowFits, OutputsFit}
-use Rattle.sums.specs.Product.{product}
-use Rattle.sums.proofs.Lanes.{lanes-none, lanes-more, tile-fits, row-turn}
-use Rattle.single.specs.Sum.{sumFrom}
-use Rattle.lists.specs.Tab.{at, tab, fill, rows}
-use mathlib.Core.Path.{_≡_, refl, sym, _∙_, ap}
-use Prim.Native.Nat.{ℕ, _+_, _*_, _-_, _/_, _%_, _≤_, _<_}
+use mathlib.Core.Path.{_≡_, _∙_, ap}
+use Prim.Native.Nat.{ℕ, _+_, _*_, _-_, _≤_}
 use native.Mathlib.Omega.{arith}
-use lib.ListN.{length, set, take, drop, length-set}
-use lib.Ieee.{Float, nan, binary32, add, mul}
+use lib.ListN.{length}
+use lib.Ieee.{nan}
 use borrow.Author.Needs.{needs}
+use Rattle.lists.proofs.Tab.{tab-ext, length-tab}
+use Rattle.sums.specs.Fits.{OutputsFit}
+use Rattle.sums.specs.Product.{product}
+use Rattle.sums.proofs.Lanes.{lanes-none, lanes-more}
+use Rattle.single.specs.Sum.{sumFrom}
+use Rattle.lists.specs.Tab.{at, tab}
 use Rattle.sums.proofs.add_outputs.Statement.{statement}
 use Rattle.sums.proofs.add_outputs.Tie as tie
-use Rattle.sums.proofs.add_outputs.Reads as reads
-use Rattle.sums.proofs.add_outputs.Lts as lts
-use Rattle.sums.proofs.add_weights.Reads as add-weights-reads
 
 abbrev Inv-loop : tie.InvT-loop
 Inv-loop values weights from w between step many r₀ j₀ r j =
@@ -25,43 +21,33 @@ Inv-loop values weights from w between step many r₀ j₀ r j =
 abbrev μ-loop : tie.MeasureT-loop
 μ-loop values weights from w between step many r₀ j₀ r j = many - j
 
--- src/lib.rt:132:5
 loop-holds : tie.Need-loop-holds Inv-loop μ-loop
 loop-holds c = (search needs, search needs, c .before .before .pre, lanes-none 8 _ _ (search needs))
 
--- src/lib.rt:133:48
 mul-add-weights : tie.Need-mul-add-weights Inv-loop μ-loop
 mul-add-weights c = omega (arith, c .before .loop .inv .2 .values-in, c .before .loop .inv .2 .weights-in 0 (c .before .loop .j) (omega arith) (c .loop-test .taken))
 
--- src/lib.rt:133:44
 add-add-weights : tie.Need-add-add-weights Inv-loop μ-loop
 add-add-weights c = omega (arith, c .before .loop .inv .2 .values-in, c .before .loop .inv .2 .weights-in 0 (c .before .loop .j) (omega arith) (c .loop-test .taken))
 
--- src/lib.rt:133:74
 add-add-weights-2 : tie.Need-add-add-weights-2 Inv-loop μ-loop
 add-add-weights-2 c = omega (arith, c .before .loop .inv .2 .values-in, c .before .loop .inv .2 .weights-in 0 (c .before .loop .j) (omega arith) (c .loop-test .taken))
 
--- src/lib.rt:133:67
 mul-add-weights-2 : tie.Need-mul-add-weights-2 Inv-loop μ-loop
 mul-add-weights-2 c = omega (arith, c .before .loop .inv .2 .values-in, c .before .loop .inv .2 .weights-in 0 (c .before .loop .j) (omega arith) (c .loop-test .taken))
 
--- src/lib.rt:133:67
 shared-slice-read-add-weights : tie.Need-shared-slice-read-add-weights Inv-loop μ-loop
 shared-slice-read-add-weights c = omega (arith, c .before .before .loop .inv .2 .values-in, c .before .before .loop .inv .2 .weights-in 0 (c .before .before .loop .j) (omega arith) (c .before .loop-test .taken))
 
--- src/lib.rt:133:13
 add-weights-requires : tie.Need-add-weights-requires Inv-loop μ-loop
 add-weights-requires c κs = λ i lt. omega (arith, c .before .before .loop .inv .2 .weights-in i (c .before .before .loop .j) lt (c .before .loop-test .taken))
 
--- src/lib.rt:132:9
 add-j : tie.Need-add-j Inv-loop μ-loop
 add-j c = search needs
 
--- src/lib.rt:132:5
 loop-less : tie.Need-loop-less Inv-loop μ-loop
 loop-less c = search needs
 
--- src/lib.rt:132:5
 loop-again : tie.Need-loop-again Inv-loop μ-loop
 unfolding product
 loop-again c = 
@@ -72,7 +58,6 @@ loop-again c =
       lanes-more 8 (c .before .before .before .loop .j) _ _ (c .before .before .before .loop .r) _ (c .before .before .before .loop .inv .3) (c .add-weights .ensures ∙ tab-ext nan 8 _ _ (λ i lt. rw (same i))),
     )
 
--- src/lib.rt:117:1
 returns : tie.Need-returns Inv-loop μ-loop
 returns c = let e : c .before .loop .j ≡ c .before .before .before .before .args .many = omega arith in rw e at (c .before .loop .inv .3)
 

@@ -1,22 +1,16 @@
-use Rattle.sums.specs.Fits.{InputsFit, RowFits, OutputsFit}
-use Rattle.sums.specs.Product.{product}
-use Rattle.sums.proofs.Lanes.{lanes-none, lanes-more, tile-fits, row-turn}
-use Rattle.single.specs.Sum.{sumFrom}
-use Rattle.lists.proofs.Fill.{fill-none, fill-turn, fill-step, fill-apart, fill-all, length-fill}
-use Rattle.lists.specs.Tab.{at, tab, fill, rows}
-use mathlib.Core.Path.{_≡_, refl, sym, _∙_, ap}
-use Prim.Native.Nat.{ℕ, _+_, _*_, _-_, _/_, _%_, _≤_, _<_}
+use mathlib.Core.Path.{_≡_, sym}
+use Prim.Native.Nat.{_+_, _*_, _-_, _/_, _≤_}
 use native.Mathlib.Omega.{arith}
-use lib.ListN.{length, set, take, drop, length-set}
-use lib.Ieee.{Float, nan, binary32, add, mul}
+use lib.ListN.{length}
 use borrow.Author.Needs.{needs}
+use Rattle.sums.specs.Fits.{RowFits}
+use Rattle.sums.specs.Product.{product}
+use Rattle.sums.proofs.Lanes.{tile-fits, row-turn}
+use Rattle.single.specs.Sum.{sumFrom}
+use Rattle.lists.proofs.Fill.{fill-none}
+use Rattle.lists.specs.Tab.{at, fill}
 use Rattle.sums.proofs.add_row.Statement.{statement}
 use Rattle.sums.proofs.add_row.Tie as tie
-use Rattle.sums.proofs.add_row.Reads as reads
-use Rattle.sums.proofs.add_row.Lts as lts
-use Rattle.sums.proofs.add_inputs.Reads as add-inputs-reads
-use Rattle.sums.proofs.load.Reads as load-reads
-use Rattle.sums.proofs.save.Reads as save-reads
 
 abbrev Inv-loop : tie.InvT-loop
 Inv-loop work₀ weights to from stride n w step many q i₀ work i =
@@ -26,47 +20,36 @@ Inv-loop work₀ weights to from stride n w step many q i₀ work i =
 abbrev μ-loop : tie.MeasureT-loop
 μ-loop work₀ weights to from stride n w step many q i₀ work i = q - i
 
--- src/lib.rt:86:5
 loop-holds : tie.Need-loop-holds Inv-loop μ-loop
 loop-holds c = (search needs, search needs, search needs, c .before .before .pre, sym (fill-none _ _ _))
 
--- src/lib.rt:87:17
 mul-t : tie.Need-mul-t Inv-loop μ-loop
 mul-t c = omega (arith, c .before .loop .inv .2, c .before .loop .inv .3 .sums-in, c .before .loop .inv .1, c .loop-test .taken)
 
--- src/lib.rt:88:31
 add-load : tie.Need-add-load Inv-loop μ-loop
 add-load c = omega (arith, c .before .before .loop .inv .2, c .before .before .loop .inv .3 .sums-in, c .before .before .loop .inv .1, c .before .loop-test .taken)
 
--- src/lib.rt:88:13
 load-requires : tie.Need-load-requires Inv-loop μ-loop
 load-requires c κs = omega (arith, c .before .before .loop .inv .2, c .before .before .loop .inv .3 .sums-in, c .before .before .loop .inv .1, c .before .loop-test .taken)
 
--- src/lib.rt:89:52
 add-add-inputs : tie.Need-add-add-inputs Inv-loop μ-loop
 add-add-inputs c = omega (arith, c .before .before .before .before .loop .inv .3 .inputs .inputs-in 0 (c .before .before .before .before .loop .inv .3 .some), c .before .before .before .before .loop .inv .1, c .before .before .before .loop-test .taken)
 
--- src/lib.rt:89:13
 add-inputs-requires : tie.Need-add-inputs-requires Inv-loop μ-loop
 add-inputs-requires c κs = tile-fits (c .before .before .before .before .loop .i) _ (c .before .before .before .before .loop .inv .3) (c .before .before .before .loop-test .taken) (c .before .before .before .before .loop .inv .2)
 
--- src/lib.rt:90:20
 add-save : tie.Need-add-save Inv-loop μ-loop
 add-save c = omega (arith, c .before .before .before .before .before .before .loop .inv .2, c .before .before .before .before .before .before .loop .inv .3 .sums-in, c .before .before .before .before .before .before .loop .inv .1, c .before .before .before .before .before .loop-test .taken)
 
--- src/lib.rt:90:9
 save-requires : tie.Need-save-requires Inv-loop μ-loop
 save-requires c κs = omega (arith, c .before .before .before .before .before .before .loop .inv .2, c .before .before .before .before .before .before .loop .inv .3 .sums-in, c .before .before .before .before .before .before .loop .inv .1, c .before .before .before .before .before .loop-test .taken)
 
--- src/lib.rt:86:9
 add-i : tie.Need-add-i Inv-loop μ-loop
 add-i c = search needs
 
--- src/lib.rt:86:5
 loop-less : tie.Need-loop-less Inv-loop μ-loop
 loop-less c = search needs
 
--- src/lib.rt:86:5
 loop-again : tie.Need-loop-again Inv-loop μ-loop
 loop-again c = (
       search needs,
@@ -76,11 +59,9 @@ loop-again c = (
       row-turn (c .before .before .before .before .before .before .before .before .before .before .before .before .args .weights .now) (c .before .before .before .before .before .before .before .before .before .before .before .before .args .work .now) (c .before .before .before .before .before .before .before .before .before .loop .work) _ _ _ _ _ _ _ _ _ _ (c .before .before .before .before .before .before .before .before .before .loop .i) (c .before .before .before .before .before .before .before .before .before .loop .inv .3) (c .before .before .before .before .before .before .before .before .loop-test .taken) (c .before .before .before .before .before .before .before .before .before .loop .inv .4) (c .before .before .before .before .before .before .load .ensures) (c .before .before .before .before .add-inputs .ensures) (c .before .before .save .ensures),
     )
 
--- src/lib.rt:70:1
 same-length : tie.Need-same-length Inv-loop μ-loop
 same-length c = search needs
 
--- src/lib.rt:70:1
 returns : tie.Need-returns Inv-loop μ-loop
 returns c = let e : c .before .loop .i * 16 ≡ c .before .before .before .before .args .n = omega (arith, c .before .loop .inv .3 .whole) in rw e at (c .before .loop .inv .4)
 

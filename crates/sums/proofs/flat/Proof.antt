@@ -1,15 +1,12 @@
-use Rattle.lists.proofs.Fill.{fill-none, fill-turn, fill-step, fill-apart, fill-all, length-fill}
-use Rattle.lists.specs.Tab.{at, tab, fill, rows}
-use mathlib.Core.Path.{_≡_, refl, sym, _∙_, ap}
-use Prim.Native.Nat.{ℕ, _+_, _*_, _-_, _/_, _%_, _≤_, _<_}
+use mathlib.Core.Path.{_≡_, refl, sym}
+use Prim.Native.Nat.{_-_, _≤_}
 use native.Mathlib.Omega.{arith}
-use lib.ListN.{length, set, take, drop, length-set}
-use lib.Ieee.{Float, nan, binary32, add, mul}
+use lib.ListN.{length}
 use borrow.Author.Needs.{needs}
+use Rattle.lists.proofs.Fill.{fill-none, fill-turn}
+use Rattle.lists.specs.Tab.{at, fill}
 use Rattle.sums.proofs.flat.Statement.{statement}
 use Rattle.sums.proofs.flat.Tie as tie
-use Rattle.sums.proofs.flat.Reads as reads
-use Rattle.sums.proofs.flat.Lts as lts
 
 abbrev Inv-loop : tie.InvT-loop
 Inv-loop work₀ to n v t₀ work t =
@@ -18,39 +15,30 @@ Inv-loop work₀ to n v t₀ work t =
 abbrev μ-loop : tie.MeasureT-loop
 μ-loop work₀ to n v t₀ work t = n - t
 
--- src/lib.rt:98:5
 loop-holds : tie.Need-loop-holds Inv-loop μ-loop
 loop-holds c = (search needs, search needs, sym (fill-none _ _ _))
 
--- src/lib.rt:99:14
 add-work : tie.Need-add-work Inv-loop μ-loop
 add-work c = search needs
 
--- src/lib.rt:99:9
 mul-work : tie.Need-mul-work Inv-loop μ-loop
 mul-work c = search needs
 
--- src/lib.rt:99:9
 slice-write-work : tie.Need-slice-write-work Inv-loop μ-loop
 slice-write-work c = search needs
 
--- src/lib.rt:98:9
 add-t : tie.Need-add-t Inv-loop μ-loop
 add-t c = search needs
 
--- src/lib.rt:98:5
 loop-less : tie.Need-loop-less Inv-loop μ-loop
 loop-less c = search needs
 
--- src/lib.rt:98:5
 loop-again : tie.Need-loop-again Inv-loop μ-loop
 loop-again c = (search needs, search needs, fill-turn _ _ _ _ _ _ (c .before .loop .inv .2) refl)
 
--- src/lib.rt:94:1
 same-length : tie.Need-same-length Inv-loop μ-loop
 same-length c = search needs
 
--- src/lib.rt:94:1
 returns : tie.Need-returns Inv-loop μ-loop
 returns c = let e : c .before .loop .t ≡ c .before .before .args .n = omega arith in rw e at (c .before .loop .inv .2)
 

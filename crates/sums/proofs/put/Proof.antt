@@ -1,16 +1,13 @@
+use mathlib.Core.Path.{_≡_, refl}
+use Prim.Native.Nat.{_-_, _≤_}
 use native.Mathlib.Nat.{mul-le-mul-right}
-use Rattle.lists.proofs.Rows.{rows-none, rows-cell, length-rows}
-use Rattle.lists.specs.Tab.{at, tab, fill, rows}
-use mathlib.Core.Path.{_≡_, refl, sym, _∙_, ap}
-use Prim.Native.Nat.{ℕ, _+_, _*_, _-_, _/_, _%_, _≤_, _<_}
 use native.Mathlib.Omega.{arith}
-use lib.ListN.{length, set, take, drop, length-set}
-use lib.Ieee.{Float, nan, binary32, add, mul}
+use lib.ListN.{length}
 use borrow.Author.Needs.{needs}
+use Rattle.lists.proofs.Rows.{rows-none, rows-cell}
+use Rattle.lists.specs.Tab.{at, rows}
 use Rattle.sums.proofs.put.Statement.{statement}
 use Rattle.sums.proofs.put.Tie as tie
-use Rattle.sums.proofs.put.Reads as reads
-use Rattle.sums.proofs.put.Lts as lts
 
 abbrev Inv-loop : tie.InvT-loop
 Inv-loop work₀ to stride sums i₀ work i =
@@ -19,51 +16,39 @@ Inv-loop work₀ to stride sums i₀ work i =
 abbrev μ-loop : tie.MeasureT-loop
 μ-loop work₀ to stride sums i₀ work i = 8 - i
 
--- src/lib.rt:162:5
 loop-holds : tie.Need-loop-holds Inv-loop μ-loop
 loop-holds c = (search needs, search needs, rows-none _ _ _ _ _)
 
--- src/lib.rt:163:33
 mul-work : tie.Need-mul-work Inv-loop μ-loop
 mul-work c = omega (arith, mul-le-mul-right {m = c .before .loop .i} {n = 7} (c .before .before .args .stride) (omega arith))
 
--- src/lib.rt:163:33
 array-read-work : tie.Need-array-read-work Inv-loop μ-loop
 array-read-work c = search needs
 
--- src/lib.rt:163:19
 mul-work-2 : tie.Need-mul-work-2 Inv-loop μ-loop
 mul-work-2 c = omega (arith, mul-le-mul-right {m = c .before .loop .i} {n = 7} (c .before .before .args .stride) (omega arith))
 
--- src/lib.rt:163:14
 add-work : tie.Need-add-work Inv-loop μ-loop
 add-work c = omega (arith, mul-le-mul-right {m = c .before .loop .i} {n = 7} (c .before .before .args .stride) (omega arith))
 
--- src/lib.rt:163:9
 mul-work-3 : tie.Need-mul-work-3 Inv-loop μ-loop
 mul-work-3 c = omega (arith, mul-le-mul-right {m = c .before .loop .i} {n = 7} (c .before .before .args .stride) (omega arith))
 
--- src/lib.rt:163:9
 slice-write-work : tie.Need-slice-write-work Inv-loop μ-loop
 slice-write-work c = omega (arith, mul-le-mul-right {m = c .before .loop .i} {n = 7} (c .before .before .args .stride) (omega arith))
 
--- src/lib.rt:162:9
 add-i : tie.Need-add-i Inv-loop μ-loop
 add-i c = search needs
 
--- src/lib.rt:162:5
 loop-less : tie.Need-loop-less Inv-loop μ-loop
 loop-less c = search needs
 
--- src/lib.rt:162:5
 loop-again : tie.Need-loop-again Inv-loop μ-loop
 loop-again c = (search needs, search needs, rows-cell _ _ _ _ _ _ _ (c .before .loop .inv .2) refl)
 
--- src/lib.rt:158:1
 same-length : tie.Need-same-length Inv-loop μ-loop
 same-length c = search needs
 
--- src/lib.rt:158:1
 returns : tie.Need-returns Inv-loop μ-loop
 returns c = let e : c .before .loop .i ≡ 8 = omega arith in rw e at (c .before .loop .inv .2)
 

@@ -1,49 +1,35 @@
-use Rattle.film.specs.Modulated.{modulated, modulationOf, filmed}
-use mathlib.Core.Path.{_≡_, refl, sym, _∙_, ap}
-use Prim.Native.Nat.{ℕ, _+_, _*_, _-_, _/_, _%_, _≤_, _<_}
+use Prim.Native.Nat.{_-_}
 use native.Mathlib.Omega.{arith}
-use lib.ListN.{length, set, take, drop, length-set}
-use lib.Ieee.{Float, nan, binary32, add, mul}
 use borrow.Author.Needs.{needs}
+use Rattle.film.specs.Modulated.{modulationOf}
 use Rattle.film.proofs.Modulation.read.Statement.{statement}
 use Rattle.film.proofs.Modulation.read.Tie as tie
-use Rattle.film.proofs.Modulation.read.Reads as reads
-use Rattle.film.proofs.Modulation.read.Lts as lts
 
--- src/lib.rt:28:24
 mul-t7 : tie.Need-mul-t7
 mul-t7 c = search needs
 
--- src/lib.rt:28:24
 shared-slice-read-t9 : tie.Need-shared-slice-read-t9
 shared-slice-read-t9 c = search needs
 
--- src/lib.rt:29:29
 add-t10 : tie.Need-add-t10
 add-t10 c = omega (arith, c .before .before .pre .1 (c .before .if1 .taken))
 
--- src/lib.rt:29:24
 mul-t11 : tie.Need-mul-t11
 mul-t11 c = omega (arith, c .before .before .pre .1 (c .before .if1 .taken))
 
--- src/lib.rt:29:24
 shared-slice-read-t13 : tie.Need-shared-slice-read-t13
 shared-slice-read-t13 c = omega (arith, c .before .before .before .pre .1 (c .before .before .if1 .taken))
 
--- src/lib.rt:34:24
 mul-t14 : tie.Need-mul-t14
 mul-t14 c = search needs
 
--- src/lib.rt:34:24
 shared-slice-read-t16 : tie.Need-shared-slice-read-t16
 shared-slice-read-t16 c = search needs
 
--- src/lib.rt:22:5
 returns : tie.Need-returns
 unfolding modulationOf
 returns c = rw (c .before .before .if1 .taken)
 
--- src/lib.rt:22:5
 returns-2 : tie.Need-returns-2
 unfolding modulationOf
 returns-2 c = rw (c .before .if1 .left)

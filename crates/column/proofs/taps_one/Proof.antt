@@ -1,131 +1,101 @@
-use Rattle.lists.proofs.Tab.{is-tab, at-tab, length-tab}
-use Rattle.ring.specs.Place.{placeBack}
-use Rattle.shape.specs.Counts.{ringLength, inputsPerGroup, kernelCount}
-use Rattle.ring.specs.Memory.{Memory, past}
-use Rattle.shape.proofs.Bounds.{reach-le, kernel-le, history-le}
-use Rattle.conv.proofs.Indices.{reach, bias-in, kernel-in}
-use Rattle.conv.proofs.Sums.{tap-is, taps-none, taps-more, base-in, outs-in, between-in, column-in, outputs-fit, lane-is}
-use Rattle.conv.specs.Fits.{PartsFit, ConvFits, BlockFits, TapFits, GroupFits}
-use Rattle.conv.specs.Recurrence.{startOf, stepsBack, channelOf, weightIndex, tapFrom, tapsFrom, output}
-use Rattle.lists.specs.Tab.{at, tab, fill, rows}
-use mathlib.Core.Path.{_≡_, refl, sym, _∙_, ap}
-use Prim.Native.Nat.{ℕ, _+_, _*_, _-_, _/_, _%_, _≤_, _<_}
+use mathlib.Core.Path.{_≡_, sym, _∙_}
+use Prim.Native.Nat.{ℕ, _+_, _*_, _-_, _≤_}
 use native.Mathlib.Omega.{arith}
-use lib.ListN.{length, set, take, drop, length-set}
-use lib.Ieee.{Float, nan, binary32, add, mul}
 use borrow.Author.Needs.{needs}
-use Rattle.conv.proofs.taps_eight.Statement.{statement}
-use Rattle.conv.proofs.taps_eight.Tie as tie
-use Rattle.conv.proofs.taps_eight.Reads as reads
-use Rattle.conv.proofs.taps_eight.Lts as lts
-use Rattle.conv.proofs.steps_back.Reads as steps-back-reads
-use Rattle.ring.proofs.Ring.back.Reads as back-reads
-use Rattle.shape.proofs.Shape.inputs_per_group.Reads as inputs-per-group-reads
-use Rattle.sums.proofs.add_outputs.Reads as add-outputs-reads
+use Rattle.ring.specs.Place.{placeBack}
+use Rattle.shape.specs.Counts.{ringLength}
+use Rattle.ring.specs.Memory.{past}
+use Rattle.shape.proofs.Bounds.{kernel-le}
+use Rattle.column.proofs.Indices.{reach}
+use Rattle.column.proofs.Sums.{taps-none, taps-more, base-in, between-in, column-in, outputs-fit, lane-is}
+use Rattle.column.specs.Recurrence.{stepsBack, tapsFrom}
+use Rattle.lists.specs.Tab.{at}
+use Rattle.column.proofs.taps_one.Statement.{statement}
+use Rattle.column.proofs.taps_one.Tie as tie
 
 abbrev Inv-loop : tie.InvT-loop
-Inv-loop history weights ring sh g o ins kernel ipg base between w r₀ k₀ r k =
-    (k ≤ kernel) × (length r₀ ≡ 8) × (length r ≡ 8)
-    × (r ≡ tab 8 (λ i. tapsFrom sh weights (past (sh .ins) (ringLength sh) (record { history = history; place = ring .at })) (o + i) k (at r₀ i)))
+Inv-loop sum history weights ring sh g o ins kernel ipg base between w r₀ k₀ r k =
+    (k ≤ kernel) × (r ≡ tapsFrom sh weights (past (sh .ins) (ringLength sh) (record { history = history; place = ring .at })) o k sum)
 
 abbrev μ-loop : tie.MeasureT-loop
-μ-loop history weights ring sh g o ins kernel ipg base between w r₀ k₀ r k = kernel - k
+μ-loop sum history weights ring sh g o ins kernel ipg base between w r₀ k₀ r k = kernel - k
 
--- src/lib.rt:196:9
 inputs-per-group-requires : tie.Need-inputs-per-group-requires Inv-loop μ-loop
 inputs-per-group-requires c κs = c .before .before .pre .0 .range
 
--- src/lib.rt:197:16
 mul-base : tie.Need-mul-base Inv-loop μ-loop
 mul-base c = omega (arith, base-in (c .before .before .before .pre .0) (c .before .before .before .pre .1) (c .inputs-per-group .ensures), c .before .before .before .pre .0 .range .ins-high)
 
--- src/lib.rt:198:19
 mul-between : tie.Need-mul-between Inv-loop μ-loop
 mul-between c = omega (arith, between-in (c .before .before .before .pre .0) (c .before .before .before .pre .1) (c .inputs-per-group .ensures) (omega arith), kernel-le (c .before .before .before .pre .0 .range))
 
--- src/lib.rt:199:13
 mul-w : tie.Need-mul-w Inv-loop μ-loop
 mul-w c = omega (arith, between-in (c .before .before .before .pre .0) (c .before .before .before .pre .1) (c .inputs-per-group .ensures) (omega arith), kernel-le (c .before .before .before .pre .0 .range))
 
--- src/lib.rt:201:5
 loop-holds : tie.Need-loop-holds Inv-loop μ-loop
-loop-holds c = (search needs, search needs, search needs, is-tab nan _ 8 _ (search needs) (λ i hi. taps-none _ _ _ _ _))
+loop-holds c = (search needs, taps-none _ _ _ _ _)
 
--- src/lib.rt:202:13
 steps-back-requires : tie.Need-steps-back-requires Inv-loop μ-loop
 steps-back-requires c κs = (c .before .before .before .before .before .pre .0 .range, c .loop-test .taken)
 
--- src/lib.rt:203:13
 back-requires : tie.Need-back-requires Inv-loop μ-loop
 back-requires c κs = (c .before .before .before .before .before .before .pre .0 .place-in, rw (c .steps-back .ensures, c .before .before .before .before .before .before .pre .0 .ring-is) (reach (c .before .before .before .before .before .before .args .sh) (c .before .before .loop .k)))
 
--- src/lib.rt:204:59
-mul-add-outputs : tie.Need-mul-add-outputs Inv-loop μ-loop
-mul-add-outputs c = 
+mul-add-output : tie.Need-mul-add-output Inv-loop μ-loop
+mul-add-output c = 
     let f = c .before .before .before .before .before .before .before .pre .0 in
     let h = c .before .before .before .before .before .before .before .pre .1 in
     let e = c .before .before .before .before .inputs-per-group .ensures in
     let column : c .back .result ≡ placeBack (c .before .before .before .before .before .before .before .args .ring .len) (c .before .before .before .before .before .before .before .args .ring .at) (stepsBack (c .before .before .before .before .before .before .before .args .sh) (c .before .before .before .loop .k)) = rw (sym (c .before .steps-back .ensures)) (c .back .ensures) in
     omega (arith, column-in f h e (c .before .before .before .loop .k) (c .back .result) column, base-in f h e, between-in f h e (omega arith), kernel-le (f .range), c .before .before .loop-test .taken, f .range .kernel-high)
 
--- src/lib.rt:204:59
-add-add-outputs : tie.Need-add-add-outputs Inv-loop μ-loop
-add-add-outputs c = 
+add-add-output : tie.Need-add-add-output Inv-loop μ-loop
+add-add-output c = 
     let f = c .before .before .before .before .before .before .before .pre .0 in
     let h = c .before .before .before .before .before .before .before .pre .1 in
     let e = c .before .before .before .before .inputs-per-group .ensures in
     let column : c .back .result ≡ placeBack (c .before .before .before .before .before .before .before .args .ring .len) (c .before .before .before .before .before .before .before .args .ring .at) (stepsBack (c .before .before .before .before .before .before .before .args .sh) (c .before .before .before .loop .k)) = rw (sym (c .before .steps-back .ensures)) (c .back .ensures) in
     omega (arith, column-in f h e (c .before .before .before .loop .k) (c .back .result) column, base-in f h e, between-in f h e (omega arith), kernel-le (f .range), c .before .before .loop-test .taken, f .range .kernel-high)
 
--- src/lib.rt:204:80
-add-add-outputs-2 : tie.Need-add-add-outputs-2 Inv-loop μ-loop
-add-add-outputs-2 c = 
+add-add-output-2 : tie.Need-add-add-output-2 Inv-loop μ-loop
+add-add-output-2 c = 
     let f = c .before .before .before .before .before .before .before .pre .0 in
     let h = c .before .before .before .before .before .before .before .pre .1 in
     let e = c .before .before .before .before .inputs-per-group .ensures in
     let column : c .back .result ≡ placeBack (c .before .before .before .before .before .before .before .args .ring .len) (c .before .before .before .before .before .before .before .args .ring .at) (stepsBack (c .before .before .before .before .before .before .before .args .sh) (c .before .before .before .loop .k)) = rw (sym (c .before .steps-back .ensures)) (c .back .ensures) in
     omega (arith, column-in f h e (c .before .before .before .loop .k) (c .back .result) column, base-in f h e, between-in f h e (omega arith), kernel-le (f .range), c .before .before .loop-test .taken, f .range .kernel-high)
 
--- src/lib.rt:204:13
-add-outputs-requires : tie.Need-add-outputs-requires Inv-loop μ-loop
-add-outputs-requires c κs = 
+add-output-requires : tie.Need-add-output-requires Inv-loop μ-loop
+add-output-requires c κs = 
     let f = c .before .before .before .before .before .before .before .pre .0 in
     let h = c .before .before .before .before .before .before .before .pre .1 in
     let e = c .before .before .before .before .inputs-per-group .ensures in
     let column : c .back .result ≡ placeBack (c .before .before .before .before .before .before .before .args .ring .len) (c .before .before .before .before .before .before .before .args .ring .at) (stepsBack (c .before .before .before .before .before .before .before .args .sh) (c .before .before .before .loop .k)) = rw (sym (c .before .steps-back .ensures)) (c .back .ensures) in
-    outputs-fit f h e (c .before .before .before .loop .k) (c .back .result) (c .before .before .loop-test .taken) column
+    let fit = outputs-fit f h e (c .before .before .before .loop .k) (c .back .result) (c .before .before .loop-test .taken) column in
+    record { values-in = fit .values-in; weights-in = λ i j hi hj. omega (arith, fit .weights-in 0 j (omega arith) hj, hi) }
 
--- src/lib.rt:201:9
 add-k : tie.Need-add-k Inv-loop μ-loop
 add-k c = search needs
 
--- src/lib.rt:201:5
 loop-less : tie.Need-loop-less Inv-loop μ-loop
 loop-less c = search needs
 
--- src/lib.rt:201:5
 loop-again : tie.Need-loop-again Inv-loop μ-loop
 loop-again c = 
     let f = c .before .before .before .before .before .before .before .before .pre .0 in
     let h = c .before .before .before .before .before .before .before .before .pre .1 in
     let e = c .before .before .before .before .before .inputs-per-group .ensures in
     let column : c .before .back .result ≡ placeBack (c .before .before .before .before .before .before .before .before .args .ring .len) (c .before .before .before .before .before .before .before .before .args .ring .at) (stepsBack (c .before .before .before .before .before .before .before .before .args .sh) (c .before .before .before .before .loop .k)) = rw (sym (c .before .before .steps-back .ensures)) (c .before .back .ensures) in
-    (
-      search needs,
-      search needs,
-      ap length (c .add-outputs .ensures) ∙ length-tab 8 _,
-      is-tab nan _ 8 _ (ap length (c .add-outputs .ensures) ∙ length-tab 8 _) (λ i hi.
-      taps-more _ _ _ _ _ _ (at (c .before .before .before .before .loop .r) i) _ (rw (c .before .before .before .before .loop .inv .3) (at-tab nan 8 _ i hi))
-      (rw (c .add-outputs .ensures, at-tab nan 8 _ i hi)
-      (lane-is f h e (c .before .before .before .before .before .before .before .before .args .history .now) (c .before .before .before .before .before .before .before .before .args .weights .now) (c .before .before .before .before .loop .k) (c .before .back .result) i (at (c .before .before .before .before .loop .r) i) column hi))),
-    )
+    let none : (o : ℕ) → o + 0 ≡ o = λ o. omega arith in
+    let none2 : (w n : ℕ) → w + 0 * n ≡ w = λ w n. omega arith in
+    let is = rw (none, none2) at (lane-is f h e (c .before .before .before .before .before .before .before .before .args .history .now) (c .before .before .before .before .before .before .before .before .args .weights .now) (c .before .before .before .before .loop .k) (c .before .back .result) 0 (c .before .before .before .before .loop .r) column (omega arith)) in
+    (search needs, taps-more _ _ _ _ _ _ (c .before .before .before .before .loop .r) _ (c .before .before .before .before .loop .inv .1) (c .add-output .ensures ∙ is))
 
--- src/lib.rt:181:1
 returns : tie.Need-returns Inv-loop μ-loop
-returns c = let e : c .before .loop .k ≡ c .before .before .before .before .before .args .sh .kernel = omega arith in rw e at (c .before .loop .inv .3)
+returns c = let e : c .before .loop .k ≡ c .before .before .before .before .before .args .sh .kernel = omega arith in rw e at (c .before .loop .inv .1)
 
-pub taps-eight-spec : {M : Type 1} → statement M
-taps-eight-spec =
+pub taps-one-spec : {M : Type 1} → statement M
+taps-one-spec =
     tie.close
     (tie.spec
     Inv-loop
@@ -137,10 +107,10 @@ taps-eight-spec =
     loop-holds
     steps-back-requires
     back-requires
-    mul-add-outputs
-    add-add-outputs
-    add-add-outputs-2
-    add-outputs-requires
+    mul-add-output
+    add-add-output
+    add-add-output-2
+    add-output-requires
     add-k
     loop-less
     loop-again

@@ -1,8 +1,8 @@
 -- One column: what `eights`, `ones` and the groups come to. Assumes nothing.
-use mathlib.Core.Path.{_≡_, refl, sym, _∙_, ap}
+use mathlib.Core.Path.{_≡_, sym, _∙_, ap}
 use mathlib.Core.Bool.{cond}
 use mathlib.Core.List.{List}
-use Prim.Native.Nat.{ℕ, _+_, _-_, _*_, _/_, _≤_, _<_}
+use Prim.Native.Nat.{ℕ, _+_, _-_, _*_, _≤_, _<_}
 use native.Mathlib.Omega.{arith}
 use lib.ListN.{length, set}
 use lib.Ieee.{Float, nan, binary32, ofBits}
@@ -10,10 +10,12 @@ use Rattle.lists.specs.Tab.{at, tab, rows}
 use Rattle.lists.proofs.Nums.{row-next}
 use Rattle.lists.proofs.Tab.{at-tab}
 use Rattle.lists.proofs.Rows.{rows-ext, rows-join, rows-cell}
-use Rattle.ring.specs.Memory.{Memory, past}
+use Rattle.ring.specs.Memory.{Memory, Sound, past, after}
+use Rattle.ring.proofs.Window.{after-sound}
 use Rattle.shape.specs.declared.Shape.{Shape}
-use Rattle.shape.specs.Counts.{ringLength, outputsPerGroup, kernelCount}
-use Rattle.conv.specs.Recurrence.{startOf, tapsFrom, output}
+use Rattle.shape.specs.Counts.{ringLength, kernelCount, historyCount}
+use Rattle.column.specs.Recurrence.{startOf, tapsFrom, output}
+use Rattle.column.specs.Fits.{PartsFit}
 
 module _ (sh : Shape) (weights : List Float) (s : Memory) where
   -- eight outputs from o on
@@ -70,3 +72,25 @@ module _ (sh : Shape) (weights : List Float) (s : Memory) where
       → last ≡ rows (out + g * n * m) m 1 n (λ i t. output sh weights s (g * n + i)) work
       → last ≡ rows out m 1 ((g + 1) * n) (λ o t. output sh weights s o) old
   groups-turn old work last out m g n e l = l ∙ rw (e, row-next g n) (rows-join out m 1 (g * n) n (λ o t. output sh weights s o) old)
+
+-- ---- the memory
+pub sound : {sh : Shape} {len nweights : ℕ} (s : Memory) → PartsFit sh (s .place) len (length (s .history)) nweights → Sound (sh .ins) (ringLength sh) s
+unfolding historyCount
+sound s f = record { place-in = rw (sym (f .ring-is)) (f .place-in); history-is = f .history-is }
+
+-- columns pushed leave a memory of the same size
+pub parts-after : {sh : Shape} {place len nweights : ℕ} (place′ len′ n : ℕ) (history history′ : List Float) (g : ℕ → ℕ → Float) → PartsFit sh place len (length history) nweights
+    → record { history = history′; place = place′ } ≡ after (sh .ins) len g (record { history = history; place = place }) n → len′ ≡ len
+    → PartsFit sh place′ len′ (length history′) nweights
+unfolding historyCount
+parts-after {sh} {place} {len} place′ len′ n history history′ g f e l =
+    let before : Sound (sh .ins) len (record { history = history; place = place }) = record { place-in = f .place-in; history-is = rw (f .ring-is) (f .history-is) } in
+    let then : Sound (sh .ins) len (record { history = history′; place = place′ }) = rw e (after-sound before g n) in
+    record {
+      range = f .range;
+      divided = f .divided;
+      place-in = rw l (then .place-in);
+      ring-is = l ∙ f .ring-is;
+      history-is = rw (sym (f .ring-is)) (then .history-is);
+      weights-is = f .weights-is;
+    }

@@ -1,16 +1,16 @@
 -- A grouped index is in range, for every shape: channels, weights, biases, and how far back a tap reads. Assumes nothing.
-use mathlib.Core.Path.{_≡_, refl, sym, _∙_, ap}
+use mathlib.Core.Path.{_≡_, _∙_, ap}
 use mathlib.Core.Bool.{Bool, true, false, cond}
 use Prim.Native.Nat.{ℕ, _+_, _-_, _*_, _/_, _≤_, _<_}
-use native.Mathlib.Nat.{mul-le-mul-right, mul-comm}
+use native.Mathlib.Nat.{mul-le-mul-right}
 use native.Mathlib.Omega.{arith}
 use Rattle.lists.proofs.Nums.{row-end, cell-lt, cell-div, div-lt}
 use Rattle.shape.specs.declared.Shape.{Shape}
-use Rattle.shape.specs.Counts.{InRange, ringLength, inputsPerGroup, outputsPerGroup, kernelCount, weightCount, historyCount}
+use Rattle.shape.specs.Counts.{InRange, ringLength, inputsPerGroup, outputsPerGroup, kernelCount, weightCount}
 use Rattle.shape.specs.Groups.{Divided}
-use Rattle.shape.proofs.Groups.{ins-are, outs-are, some-in, some-out, kernel-is}
-use Rattle.conv.specs.Recurrence.{stepsBack, channelOf, weightIndex}
-use Rattle.conv.specs.Fits.{GroupFits}
+use Rattle.shape.proofs.Groups.{ins-are, outs-are, some-out, kernel-is}
+use Rattle.column.specs.Recurrence.{stepsBack, channelOf, weightIndex}
+use Rattle.column.specs.Fits.{GroupFits}
 
 pub reach : (sh : Shape) (k : ℕ) → stepsBack sh k < ringLength sh
 unfolding stepsBack ringLength

@@ -1,30 +1,27 @@
 -- The code's sums are the recurrence's: one tap, tap after tap, and where their weights and inputs lie. Assumes nothing.
 use mathlib.Core.Path.{_≡_, refl, sym, _∙_, ap}
 use mathlib.Core.List.{List}
-use Prim.Native.Nat.{ℕ, zero, suc, _+_, _-_, _*_, _/_, _≤_, _<_}
-use native.Mathlib.Nat.{mul-assoc, mul-le-mul-right}
+use Prim.Native.Nat.{ℕ, zero, suc, _+_, _-_, _*_, _≤_, _<_}
+use native.Mathlib.Nat.{mul-assoc}
 use native.Mathlib.Numerals.{add-one}
 use native.Mathlib.Omega.{arith}
-use lib.ListN.{length}
 use lib.Ieee.{Float, binary32, mul}
 use Rattle.lists.specs.Tab.{at}
 use Rattle.lists.proofs.Nums.{row-end}
 use Rattle.single.specs.Sum.{sumFrom}
 use Rattle.single.proofs.Sum.{sum-ext}
 use Rattle.ring.specs.Place.{placeBack}
-use Rattle.ring.specs.Memory.{Memory, past}
+use Rattle.ring.specs.Memory.{past}
 use Rattle.ring.proofs.Places.{back-lt}
 use Rattle.history.proofs.Turns.{column-end}
 use Rattle.sums.specs.Product.{product}
 use Rattle.sums.specs.Fits.{OutputsFit}
 use Rattle.shape.specs.declared.Shape.{Shape}
-use Rattle.shape.specs.Counts.{InRange, ringLength, inputsPerGroup, outputsPerGroup, kernelCount, historyCount}
-use Rattle.shape.specs.Groups.{Divided}
-use Rattle.shape.proofs.Bounds.{kernel-le, history-le}
+use Rattle.shape.specs.Counts.{ringLength, inputsPerGroup, kernelCount, historyCount}
 use Rattle.shape.proofs.Groups.{kernel-is}
-use Rattle.conv.specs.Recurrence.{stepsBack, channelOf, weightIndex, tapFrom, tapsFrom}
-use Rattle.conv.specs.Fits.{PartsFit, GroupFits}
-use Rattle.conv.proofs.Indices.{reach, kernel-in, inputs-end, group-end, channel-at, weight-in}
+use Rattle.column.specs.Recurrence.{stepsBack, channelOf, weightIndex, tapFrom, tapsFrom}
+use Rattle.column.specs.Fits.{PartsFit, GroupFits}
+use Rattle.column.proofs.Indices.{reach, kernel-in, inputs-end, group-end, channel-at, weight-in}
 
 -- a sum of the code's is a tap's, if its weights and inputs are
 pub tap-is : (sh : Shape) (weights : List Float) (v : ℕ → ℕ → Float) (o k w ipg : ℕ) (u : ℕ → Float) (start : Float) → ipg ≡ inputsPerGroup sh

@@ -10,7 +10,7 @@ use Rattle.ring.specs.Place.{nextPlace, placeBack}
 use Rattle.ring.specs.Memory.{Memory, push, past, after}
 use Rattle.shape.specs.declared.Shape.{Shape}
 use Rattle.shape.specs.Counts.{ringLength, inputsPerGroup, outputsPerGroup, kernelCount}
-use Rattle.conv.specs.Recurrence.{startOf, stepsBack, channelOf, weightIndex, tapFrom, tapsFrom, output, remembered}
+use Rattle.column.specs.Recurrence.{startOf, stepsBack, channelOf, weightIndex, tapFrom, tapsFrom, output, remembered}
 
 abbrev floats : List ℕ → List Float
 floats l = map (ofBits binary32) l

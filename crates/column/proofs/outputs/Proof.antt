@@ -1,20 +1,16 @@
+use mathlib.Core.Path.{_≡_, sym}
+use Prim.Native.Nat.{_*_, _-_, _≤_}
+use native.Mathlib.Omega.{arith}
+use lib.ListN.{length}
+use borrow.Author.Needs.{needs}
 use Rattle.shape.proofs.Groups.{outs-are}
 use Rattle.lists.proofs.Rows.{rows-none}
 use Rattle.shape.specs.Counts.{outputsPerGroup}
-use Rattle.conv.proofs.OneColumn.{both, groups-turn}
-use Rattle.conv.specs.Recurrence.{output}
-use Rattle.lists.specs.Tab.{at, tab, fill, rows}
-use mathlib.Core.Path.{_≡_, refl, sym, _∙_, ap}
-use Prim.Native.Nat.{ℕ, _+_, _*_, _-_, _/_, _%_, _≤_, _<_}
-use native.Mathlib.Omega.{arith}
-use lib.ListN.{length, set, take, drop, length-set}
-use lib.Ieee.{Float, nan, binary32, add, mul}
-use borrow.Author.Needs.{needs}
-use Rattle.conv.proofs.outputs.Statement.{statement}
-use Rattle.conv.proofs.outputs.Tie as tie
-use Rattle.conv.proofs.outputs.Reads as reads
-use Rattle.conv.proofs.outputs.Lts as lts
-use Rattle.conv.proofs.group_outputs.Reads as group-outputs-reads
+use Rattle.column.proofs.OneColumn.{groups-turn}
+use Rattle.column.specs.Recurrence.{output}
+use Rattle.lists.specs.Tab.{at, rows}
+use Rattle.column.proofs.outputs.Statement.{statement}
+use Rattle.column.proofs.outputs.Tie as tie
 
 abbrev Inv-loop : tie.InvT-loop
 Inv-loop work₀ history weights out m ring sh groups g₀ work g =
@@ -24,23 +20,18 @@ Inv-loop work₀ history weights out m ring sh groups g₀ work g =
 abbrev μ-loop : tie.MeasureT-loop
 μ-loop work₀ history weights out m ring sh groups g₀ work g = groups - g
 
--- src/lib.rt:321:5
 loop-holds : tie.Need-loop-holds Inv-loop μ-loop
 loop-holds c = let none : 0 * outputsPerGroup (c .before .before .before .args .sh) ≡ 0 = omega arith in (search needs, search needs, rw none (rows-none _ _ _ _ _))
 
--- src/lib.rt:322:9
 group-outputs-requires : tie.Need-group-outputs-requires Inv-loop μ-loop
 group-outputs-requires c κs = (c .before .before .before .before .before .before .pre .0, c .before .loop-test .taken, λ o ho. omega (arith, c .before .before .loop .inv .1, c .before .before .before .before .before .before .pre .1 o ho))
 
--- src/lib.rt:321:9
 add-g : tie.Need-add-g Inv-loop μ-loop
 add-g c = search needs
 
--- src/lib.rt:321:5
 loop-less : tie.Need-loop-less Inv-loop μ-loop
 loop-less c = search needs
 
--- src/lib.rt:321:5
 loop-again : tie.Need-loop-again Inv-loop μ-loop
 loop-again c = (
       search needs,
@@ -48,11 +39,9 @@ loop-again c = (
       groups-turn (c .before .before .before .before .before .before .before .before .before .args .sh) (c .before .before .before .before .before .before .before .before .before .args .weights .now) _ _ (c .before .before .before .before .before .loop .work) _ _ _ (c .before .before .before .before .before .loop .g) _ (c .before .before .before .before .before .loop .inv .2) (c .before .before .group-outputs .ensures),
     )
 
--- src/lib.rt:308:1
 same-length : tie.Need-same-length Inv-loop μ-loop
 same-length c = search needs
 
--- src/lib.rt:308:1
 returns : tie.Need-returns Inv-loop μ-loop
 returns c = let e : c .before .loop .g ≡ c .before .before .before .before .before .args .sh .groups = omega arith in
     let all : c .before .loop .g * outputsPerGroup (c .before .before .before .before .before .args .sh) ≡ c .before .before .before .before .before .args .sh .outs = rw e (sym (outs-are (c .before .before .before .before .before .pre .0 .divided))) in

@@ -1,18 +1,14 @@
-use lib.Ieee.{ofBits}
-use mathlib.Core.Bool.{cond, true}
-use Rattle.lists.proofs.Fill.{fill-none, fill-step, fill-all}
-use Rattle.lists.specs.Tab.{at, tab, fill, rows}
-use mathlib.Core.Path.{_≡_, refl, sym, _∙_, ap}
-use Prim.Native.Nat.{ℕ, _+_, _*_, _-_, _/_, _%_, _≤_, _<_}
+use mathlib.Core.Bool.{cond}
+use mathlib.Core.Path.{_≡_, sym, _∙_}
+use Prim.Native.Nat.{_+_, _-_, _≤_}
 use native.Mathlib.Omega.{arith}
-use lib.ListN.{length, set, take, drop, length-set}
-use lib.Ieee.{Float, nan, binary32, add, mul}
+use lib.Ieee.{ofBits, nan, binary32}
+use lib.ListN.{length}
 use borrow.Author.Needs.{needs}
-use Rattle.conv.proofs.start_eight.Statement.{statement}
-use Rattle.conv.proofs.start_eight.Tie as tie
-use Rattle.conv.proofs.start_eight.Reads as reads
-use Rattle.conv.proofs.start_eight.Lts as lts
-use Rattle.conv.proofs.bias.Reads as bias-reads
+use Rattle.lists.proofs.Fill.{fill-none, fill-step, fill-all}
+use Rattle.lists.specs.Tab.{at, fill}
+use Rattle.column.proofs.start_eight.Statement.{statement}
+use Rattle.column.proofs.start_eight.Tie as tie
 
 abbrev Inv-loop : tie.InvT-loop
 Inv-loop weights biased from r₀ i₀ r i =
@@ -21,39 +17,30 @@ Inv-loop weights biased from r₀ i₀ r i =
 abbrev μ-loop : tie.MeasureT-loop
 μ-loop weights biased from r₀ i₀ r i = 8 - i
 
--- src/lib.rt:174:5
 loop-holds : tie.Need-loop-holds Inv-loop μ-loop
 loop-holds c = (search needs, search needs, search needs, sym (fill-none _ _ _))
 
--- src/lib.rt:175:39
 add-bias : tie.Need-add-bias Inv-loop μ-loop
 add-bias c = search needs
 
--- src/lib.rt:175:13
 bias-requires : tie.Need-bias-requires Inv-loop μ-loop
 bias-requires c κs = λ b. omega (arith, c .before .before .before .pre .1 b, c .loop-test .taken)
 
--- src/lib.rt:176:9
 mul-r : tie.Need-mul-r Inv-loop μ-loop
 mul-r c = search needs
 
--- src/lib.rt:176:9
 array-write-r : tie.Need-array-write-r Inv-loop μ-loop
 array-write-r c = search needs
 
--- src/lib.rt:174:9
 add-i : tie.Need-add-i Inv-loop μ-loop
 add-i c = search needs
 
--- src/lib.rt:174:5
 loop-less : tie.Need-loop-less Inv-loop μ-loop
 loop-less c = search needs
 
--- src/lib.rt:174:5
 loop-again : tie.Need-loop-again Inv-loop μ-loop
 loop-again c = (search needs, search needs, search needs, fill-step _ _ _ _ _ (c .before .before .loop .inv .3) (c .bias .ensures))
 
--- src/lib.rt:169:1
 returns : tie.Need-returns Inv-loop μ-loop
 returns c = let e : c .before .loop .i ≡ 8 = omega arith in (rw e at (c .before .loop .inv .3)) ∙ fill-all nan _ _ _ (c .before .loop .inv .1)
 

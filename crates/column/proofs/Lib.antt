@@ -1,0 +1,4 @@
+pub mod Indices
+pub mod Sums
+pub mod OneColumn
+pub mod Cases

@@ -1,0 +1,2 @@
+pub mod Recurrence
+pub mod Fits
