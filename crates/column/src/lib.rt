@@ -64,7 +64,16 @@ fn taps_eight(
     for k in 0..kernel {
         let back = steps_back(sh, k);
         let column = ring.back(back);
-        let more = sums::add_outputs(r, history, weights, column * ins + base, w + k, between, kernel, ipg);
+        let more = sums::add_outputs(
+            r,
+            history,
+            weights,
+            column * ins + base,
+            w + k,
+            between,
+            kernel,
+            ipg,
+        );
         r = more;
     }
     r
@@ -165,7 +174,18 @@ fn group_outputs(
     let first = g * opg;
     let q = opg / 8;
     eights(work, history, weights, out, m, ring, sh, g, first, q);
-    ones(work, history, weights, out, m, ring, sh, g, first + q * 8, opg - q * 8);
+    ones(
+        work,
+        history,
+        weights,
+        out,
+        m,
+        ring,
+        sh,
+        g,
+        first + q * 8,
+        opg - q * 8,
+    );
 }
 
 fn outputs(

@@ -51,7 +51,17 @@ fn tap_group(
     for i in 0..opg {
         let o = g * opg + i;
         let kernel = sh.kernel;
-        sums::add_row(work, weights, out + o * m, row, stride, n, o * ipg * kernel + k, kernel, ipg);
+        sums::add_row(
+            work,
+            weights,
+            out + o * m,
+            row,
+            stride,
+            n,
+            o * ipg * kernel + k,
+            kernel,
+            ipg,
+        );
     }
 }
 
@@ -212,7 +222,18 @@ pub fn conv(
     let mut t = 0;
     while t < m {
         let n = width(m - t);
-        place = part(work, history, weights, x + t, out + t, rows, place, sh, m, n);
+        place = part(
+            work,
+            history,
+            weights,
+            x + t,
+            out + t,
+            rows,
+            place,
+            sh,
+            m,
+            n,
+        );
         t = t + n;
     }
     place

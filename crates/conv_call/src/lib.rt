@@ -195,11 +195,32 @@ pub extern "C" fn conv_block(
         biased: bias == 1,
     };
     let at = *place;
-    if !call_fits(sh, at, bias, m, work.len(), history.len(), weights.len(), x, out, rows) {
+    if !call_fits(
+        sh,
+        at,
+        bias,
+        m,
+        work.len(),
+        history.len(),
+        weights.len(),
+        x,
+        out,
+        rows,
+    ) {
         return 1;
     }
     let len = sh.ring_length();
-    let next = conv::conv(work, history, weights, x, out, rows, Ring { at, len }, sh, m);
+    let next = conv::conv(
+        work,
+        history,
+        weights,
+        x,
+        out,
+        rows,
+        Ring { at, len },
+        sh,
+        m,
+    );
     *place = next.at;
     0
 }

@@ -14,8 +14,8 @@ whole n g e = let d = div-add-mod n g in omega (arith, e, d)
 some : (g n m : ℕ) → m ≡ g * n → 0 < m → 0 < n
 some g n m e h =
     elim (decLe n 0) [
-      yes l ↦ let z : n ≡ 0 = omega arith in absurd (let no : m ≡ 0 = rw (z, mul-zero) at e in omega arith)
-    | no l ↦ lt-of-not-le l
+      | yes l ↦ let z : n ≡ 0 = omega arith in absurd (let no : m ≡ 0 = rw (z, mul-zero) at e in omega arith)
+      | no l ↦ lt-of-not-le l
     ]
 
 regroup : (a n b k g : ℕ) → n ≡ g * b → a * n * k ≡ a * b * k * g

@@ -1,4 +1,4 @@
-use Prim.Native.Nat.{_-_}
+-- `column::bias` meets its contract. By the two cases of the flag. Assumes nothing.
 use native.Mathlib.Omega.{arith}
 use Rattle.column.proofs.bias.Statement.{statement}
 use Rattle.column.proofs.bias.Tie as tie

@@ -1,4 +1,4 @@
-use Prim.Native.Nat.{_-_}
+-- `column::column` meets its contract. The column is pushed, which leaves a memory of the same size; the outputs are that memory's. Assumes nothing.
 use native.Mathlib.Omega.{arith}
 use borrow.Author.Needs.{needs}
 use Rattle.shape.specs.Counts.{historyCount}
@@ -8,12 +8,17 @@ use Rattle.column.proofs.column.Tie as tie
 
 store-requires : tie.Need-store-requires
 unfolding historyCount
-store-requires c κs = 
-    let f = c .before .before .before .before .before .pre .0 in
-    record { some = f .range .ins-low; place-in = f .place-in; history-is = rw (f .ring-is) (f .history-is); block-in = λ i hi. omega (arith, c .before .before .before .before .before .pre .1 i hi) }
+store-requires c κs =
+    let pre = c .before .before .before .before .before .pre in
+    let f = pre .0 in
+    record { some = f .range .ins-low; place-in = f .place-in; history-is = rw (f .ring-is) (f .history-is); block-in = λ i hi. omega (arith, pre .1 i hi) }
 
 outputs-requires : tie.Need-outputs-requires
-outputs-requires c κs = (parts-after _ _ 1 (c .before .before .before .before .before .before .before .before .before .before .args .history .now) _ _ (c .before .before .before .before .before .before .before .before .before .before .pre .0) (c .before .before .before .before .store .ensures .0) (c .before .before .before .before .store .ensures .1), c .before .before .before .before .before .before .before .before .before .before .pre .2)
+outputs-requires c κs =
+    let args = c .before .before .before .before .before .before .before .before .before .before .args in
+    let pre = c .before .before .before .before .before .before .before .before .before .before .pre in
+    let store = c .before .before .before .before .store in
+    (parts-after _ _ 1 (args .history .now) _ _ (pre .0) (store .ensures .0) (store .ensures .1), pre .2)
 
 same-length : tie.Need-same-length
 same-length c = search needs
@@ -22,7 +27,10 @@ same-length-2 : tie.Need-same-length-2
 same-length-2 c = search needs
 
 returns : tie.Need-returns
-returns c = (rw (c .before .before .before .before .before .before .before .before .before .before .before .before .before .pre .0 .ring-is) at (c .before .before .before .before .before .before .before .store .ensures .0), c .before .before .outputs .ensures, c .before .before .before .before .before .before .before .store .ensures .1)
+returns c =
+    let pre = c .before .before .before .before .before .before .before .before .before .before .before .before .before .pre in
+    let store = c .before .before .before .before .before .before .before .store in
+    (rw (pre .0 .ring-is) at (store .ensures .0), c .before .before .outputs .ensures, store .ensures .1)
 
 pub column-spec : {M : Type 1} → statement M
 column-spec =

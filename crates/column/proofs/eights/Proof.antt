@@ -1,3 +1,4 @@
+-- `column::eights` meets its contract. Eight outputs more a turn, by `eight-is` and `eights-turn`. Assumes nothing.
 use mathlib.Core.Path.{_≡_}
 use Prim.Native.Nat.{_+_, _*_, _-_, _≤_}
 use native.Mathlib.Omega.{arith}
@@ -20,47 +21,78 @@ abbrev μ-loop : tie.MeasureT-loop
 μ-loop work₀ history weights out m ring sh g first q biased count i₀ work i = q - i
 
 kernel-count-requires : tie.Need-kernel-count-requires Inv-loop μ-loop
-kernel-count-requires c κs = c .before .before .before .pre .0 .range
+kernel-count-requires c κs =
+    let pre = c .before .before .before .pre in
+    pre .0 .range
 
 loop-holds : tie.Need-loop-holds Inv-loop μ-loop
 loop-holds c = (search needs, search needs, rows-none _ _ _ _ _)
 
 mul-o : tie.Need-mul-o Inv-loop μ-loop
-mul-o c = let end = group-end (c .before .before .before .before .before .before .pre .0 .divided) (c .before .before .before .before .before .before .pre .0 .range) (c .before .before .before .before .before .before .args .g) (c .before .before .before .before .before .before .pre .1 .group-in) in
-    omega (arith, end, c .before .before .before .before .before .before .pre .1 .high, c .before .before .before .before .before .before .pre .0 .range .outs-high, c .loop-test .taken)
+mul-o c =
+    let pre = c .before .before .before .before .before .before .pre in
+    let args = c .before .before .before .before .before .before .args in
+    let end = group-end (pre .0 .divided) (pre .0 .range) (args .g) (pre .1 .group-in) in
+    omega (arith, end, pre .1 .high, pre .0 .range .outs-high, c .loop-test .taken)
 
 add-o : tie.Need-add-o Inv-loop μ-loop
-add-o c = let end = group-end (c .before .before .before .before .before .before .pre .0 .divided) (c .before .before .before .before .before .before .pre .0 .range) (c .before .before .before .before .before .before .args .g) (c .before .before .before .before .before .before .pre .1 .group-in) in
-    omega (arith, end, c .before .before .before .before .before .before .pre .1 .high, c .before .before .before .before .before .before .pre .0 .range .outs-high, c .loop-test .taken)
+add-o c =
+    let pre = c .before .before .before .before .before .before .pre in
+    let args = c .before .before .before .before .before .before .args in
+    let end = group-end (pre .0 .divided) (pre .0 .range) (args .g) (pre .1 .group-in) in
+    omega (arith, end, pre .1 .high, pre .0 .range .outs-high, c .loop-test .taken)
 
 add-start-eight : tie.Need-add-start-eight Inv-loop μ-loop
-add-start-eight c = let end = group-end (c .before .before .before .before .before .before .pre .0 .divided) (c .before .before .before .before .before .before .pre .0 .range) (c .before .before .before .before .before .before .args .g) (c .before .before .before .before .before .before .pre .1 .group-in) in
-    omega (arith, end, c .before .before .before .before .before .before .pre .1 .high, c .before .before .before .before .before .before .pre .0 .range .outs-high, c .loop-test .taken, c .before .before .kernel-count .ensures, kernel-le (c .before .before .before .before .before .before .pre .0 .range))
+add-start-eight c =
+    let pre = c .before .before .before .before .before .before .pre in
+    let args = c .before .before .before .before .before .before .args in
+    let end = group-end (pre .0 .divided) (pre .0 .range) (args .g) (pre .1 .group-in) in
+    omega (arith, end, pre .1 .high, pre .0 .range .outs-high, c .loop-test .taken, c .before .before .kernel-count .ensures, kernel-le (pre .0 .range))
 
 start-eight-requires : tie.Need-start-eight-requires Inv-loop μ-loop
-start-eight-requires c κs = let end = group-end (c .before .before .before .before .before .before .pre .0 .divided) (c .before .before .before .before .before .before .pre .0 .range) (c .before .before .before .before .before .before .args .g) (c .before .before .before .before .before .before .pre .1 .group-in) in
-    (
-      omega (arith, end, c .before .before .before .before .before .before .pre .1 .high, c .before .before .before .before .before .before .pre .0 .range .outs-high, c .loop-test .taken, c .before .before .kernel-count .ensures, kernel-le (c .before .before .before .before .before .before .pre .0 .range)),
-      λ b. omega (arith, c .before .before .kernel-count .ensures, bias-in (c .before .before .before .before .before .before .args .sh) (c .before .before .before .before .before .before .args .first + c .before .loop .i * 8 + 8) _ (c .before .before .before .before .before .before .pre .0 .weights-is) (omega (arith, end, c .before .before .before .before .before .before .pre .1 .high, c .loop-test .taken)) b),
+start-eight-requires c κs =
+    let pre = c .before .before .before .before .before .before .pre in
+    let args = c .before .before .before .before .before .before .args in
+    let kernel-count = c .before .before .kernel-count in
+    let end = group-end (pre .0 .divided) (pre .0 .range) (args .g) (pre .1 .group-in) in (
+      omega (arith, end, pre .1 .high, pre .0 .range .outs-high, c .loop-test .taken, kernel-count .ensures, kernel-le (pre .0 .range)),
+      λ b. omega (arith, kernel-count .ensures, bias-in (args .sh) (args .first + c .before .loop .i * 8 + 8) _ (pre .0 .weights-is) (omega (arith, end, pre .1 .high, c .loop-test .taken)) b),
     )
 
 taps-eight-requires : tie.Need-taps-eight-requires Inv-loop μ-loop
-taps-eight-requires c κs = (c .before .before .before .before .before .before .before .pre .0, stretch (c .before .before .loop .i * 8) 8 (c .before .before .before .before .before .before .before .pre .1) (omega (arith, c .before .loop-test .taken)))
+taps-eight-requires c κs =
+    let pre = c .before .before .before .before .before .before .before .pre in
+    (pre .0, stretch (c .before .before .loop .i * 8) 8 (pre .1) (omega (arith, c .before .loop-test .taken)))
 
 mul-put : tie.Need-mul-put Inv-loop μ-loop
-mul-put c = let end = group-end (c .before .before .before .before .before .before .before .before .before .pre .0 .divided) (c .before .before .before .before .before .before .before .before .before .pre .0 .range) (c .before .before .before .before .before .before .before .before .before .args .g) (c .before .before .before .before .before .before .before .before .before .pre .1 .group-in) in
-    let last = c .before .before .before .before .before .before .before .before .before .pre .2 (c .before .before .before .before .before .before .before .before .before .args .first + c .before .before .before .before .loop .i * 8 + 7) (omega (arith, end, c .before .before .before .before .before .before .before .before .before .pre .1 .high, c .before .before .before .loop-test .taken)) in
-    omega (arith, last, c .before .before .before .before .loop .inv .1)
+mul-put c =
+    let pre = c .before .before .before .before .before .before .before .before .before .pre in
+    let args = c .before .before .before .before .before .before .before .before .before .args in
+    let loop = c .before .before .before .before .loop in
+    let loop-test = c .before .before .before .loop-test in
+    let end = group-end (pre .0 .divided) (pre .0 .range) (args .g) (pre .1 .group-in) in
+    let last = pre .2 (args .first + loop .i * 8 + 7) (omega (arith, end, pre .1 .high, loop-test .taken)) in
+    omega (arith, last, loop .inv .1)
 
 add-put : tie.Need-add-put Inv-loop μ-loop
-add-put c = let end = group-end (c .before .before .before .before .before .before .before .before .before .pre .0 .divided) (c .before .before .before .before .before .before .before .before .before .pre .0 .range) (c .before .before .before .before .before .before .before .before .before .args .g) (c .before .before .before .before .before .before .before .before .before .pre .1 .group-in) in
-    let last = c .before .before .before .before .before .before .before .before .before .pre .2 (c .before .before .before .before .before .before .before .before .before .args .first + c .before .before .before .before .loop .i * 8 + 7) (omega (arith, end, c .before .before .before .before .before .before .before .before .before .pre .1 .high, c .before .before .before .loop-test .taken)) in
-    omega (arith, last, c .before .before .before .before .loop .inv .1)
+add-put c =
+    let pre = c .before .before .before .before .before .before .before .before .before .pre in
+    let args = c .before .before .before .before .before .before .before .before .before .args in
+    let loop = c .before .before .before .before .loop in
+    let loop-test = c .before .before .before .loop-test in
+    let end = group-end (pre .0 .divided) (pre .0 .range) (args .g) (pre .1 .group-in) in
+    let last = pre .2 (args .first + loop .i * 8 + 7) (omega (arith, end, pre .1 .high, loop-test .taken)) in
+    omega (arith, last, loop .inv .1)
 
 put-requires : tie.Need-put-requires Inv-loop μ-loop
-put-requires c κs = let end = group-end (c .before .before .before .before .before .before .before .before .before .pre .0 .divided) (c .before .before .before .before .before .before .before .before .before .pre .0 .range) (c .before .before .before .before .before .before .before .before .before .args .g) (c .before .before .before .before .before .before .before .before .before .pre .1 .group-in) in
-    let last = c .before .before .before .before .before .before .before .before .before .pre .2 (c .before .before .before .before .before .before .before .before .before .args .first + c .before .before .before .before .loop .i * 8 + 7) (omega (arith, end, c .before .before .before .before .before .before .before .before .before .pre .1 .high, c .before .before .before .loop-test .taken)) in
-    omega (arith, last, c .before .before .before .before .loop .inv .1)
+put-requires c κs =
+    let pre = c .before .before .before .before .before .before .before .before .before .pre in
+    let args = c .before .before .before .before .before .before .before .before .before .args in
+    let loop = c .before .before .before .before .loop in
+    let loop-test = c .before .before .before .loop-test in
+    let end = group-end (pre .0 .divided) (pre .0 .range) (args .g) (pre .1 .group-in) in
+    let last = pre .2 (args .first + loop .i * 8 + 7) (omega (arith, end, pre .1 .high, loop-test .taken)) in
+    omega (arith, last, loop .inv .1)
 
 add-i : tie.Need-add-i Inv-loop μ-loop
 add-i c = search needs
@@ -69,19 +101,28 @@ loop-less : tie.Need-loop-less Inv-loop μ-loop
 loop-less c = search needs
 
 loop-again : tie.Need-loop-again Inv-loop μ-loop
-loop-again c = (
+loop-again c =
+    let args = c .before .before .before .before .before .before .before .before .before .before .before .before .args in
+    let kernel-count = c .before .before .before .before .before .before .before .before .kernel-count in
+    let loop = c .before .before .before .before .before .before .before .loop in
+    let start-eight = c .before .before .before .before .before .start-eight in
+    let taps-eight = c .before .before .before .before .taps-eight in
+    let put = c .before .before .put in (
       search needs,
-      omega (arith, c .before .before .put .kept .0, c .before .before .before .before .before .before .before .loop .inv .1),
-      eights-turn (c .before .before .before .before .before .before .before .before .before .before .before .before .args .sh) (c .before .before .before .before .before .before .before .before .before .before .before .before .args .weights .now) _ (c .before .before .before .before .before .before .before .before .before .before .before .before .args .work .now) (c .before .before .before .before .before .before .before .loop .work) _ (c .before .before .before .before .taps-eight .result) _ _ _ (c .before .before .before .before .before .before .before .loop .i)
-      (eight-is (c .before .before .before .before .before .before .before .before .before .before .before .before .args .sh) (c .before .before .before .before .before .before .before .before .before .before .before .before .args .weights .now) _ (c .before .before .before .before .before .before .before .before .before .before .before .before .args .first + c .before .before .before .before .before .before .before .loop .i * 8) _ _ _ (c .before .before .before .before .before .before .before .before .kernel-count .ensures) (c .before .before .before .before .before .start-eight .ensures) (c .before .before .before .before .taps-eight .ensures))
-      (c .before .before .before .before .before .before .before .loop .inv .2) (c .before .before .put .ensures),
+      omega (arith, put .kept .0, loop .inv .1),
+      eights-turn (args .sh) (args .weights .now) _ (args .work .now) (loop .work) _ (taps-eight .result) _ _ _ (loop .i)
+          (eight-is (args .sh) (args .weights .now) _ (args .first + loop .i * 8) _ _ _ (kernel-count .ensures) (start-eight .ensures) (taps-eight .ensures))
+          (loop .inv .2) (put .ensures),
     )
 
 same-length : tie.Need-same-length Inv-loop μ-loop
 same-length c = search needs
 
 returns : tie.Need-returns Inv-loop μ-loop
-returns c = let e : c .before .loop .i ≡ c .before .before .before .before .before .before .args .q = omega arith in rw e at (c .before .loop .inv .2)
+returns c =
+    let args = c .before .before .before .before .before .before .args in
+    let loop = c .before .loop in
+    let e : loop .i ≡ args .q = omega arith in rw e at (loop .inv .2)
 
 pub eights-spec : {M : Type 1} → statement M
 eights-spec =

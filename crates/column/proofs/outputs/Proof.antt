@@ -1,3 +1,4 @@
+-- `column::outputs` meets its contract. One group more a turn, by `groups-turn`. Assumes nothing.
 use mathlib.Core.Path.{_≡_, sym}
 use Prim.Native.Nat.{_*_, _-_, _≤_}
 use native.Mathlib.Omega.{arith}
@@ -21,10 +22,14 @@ abbrev μ-loop : tie.MeasureT-loop
 μ-loop work₀ history weights out m ring sh groups g₀ work g = groups - g
 
 loop-holds : tie.Need-loop-holds Inv-loop μ-loop
-loop-holds c = let none : 0 * outputsPerGroup (c .before .before .before .args .sh) ≡ 0 = omega arith in (search needs, search needs, rw none (rows-none _ _ _ _ _))
+loop-holds c =
+    let args = c .before .before .before .args in
+    let none : 0 * outputsPerGroup (args .sh) ≡ 0 = omega arith in (search needs, search needs, rw none (rows-none _ _ _ _ _))
 
 group-outputs-requires : tie.Need-group-outputs-requires Inv-loop μ-loop
-group-outputs-requires c κs = (c .before .before .before .before .before .before .pre .0, c .before .loop-test .taken, λ o ho. omega (arith, c .before .before .loop .inv .1, c .before .before .before .before .before .before .pre .1 o ho))
+group-outputs-requires c κs =
+    let pre = c .before .before .before .before .before .before .pre in
+    (pre .0, c .before .loop-test .taken, λ o ho. omega (arith, c .before .before .loop .inv .1, pre .1 o ho))
 
 add-g : tie.Need-add-g Inv-loop μ-loop
 add-g c = search needs
@@ -33,19 +38,26 @@ loop-less : tie.Need-loop-less Inv-loop μ-loop
 loop-less c = search needs
 
 loop-again : tie.Need-loop-again Inv-loop μ-loop
-loop-again c = (
+loop-again c =
+    let args = c .before .before .before .before .before .before .before .before .before .args in
+    let loop = c .before .before .before .before .before .loop in
+    let group-outputs = c .before .before .group-outputs in (
       search needs,
-      omega (arith, c .before .before .group-outputs .kept .0, c .before .before .before .before .before .loop .inv .1),
-      groups-turn (c .before .before .before .before .before .before .before .before .before .args .sh) (c .before .before .before .before .before .before .before .before .before .args .weights .now) _ _ (c .before .before .before .before .before .loop .work) _ _ _ (c .before .before .before .before .before .loop .g) _ (c .before .before .before .before .before .loop .inv .2) (c .before .before .group-outputs .ensures),
+      omega (arith, group-outputs .kept .0, loop .inv .1),
+      groups-turn (args .sh) (args .weights .now) _ _ (loop .work) _ _ _ (loop .g) _ (loop .inv .2) (group-outputs .ensures),
     )
 
 same-length : tie.Need-same-length Inv-loop μ-loop
 same-length c = search needs
 
 returns : tie.Need-returns Inv-loop μ-loop
-returns c = let e : c .before .loop .g ≡ c .before .before .before .before .before .args .sh .groups = omega arith in
-    let all : c .before .loop .g * outputsPerGroup (c .before .before .before .before .before .args .sh) ≡ c .before .before .before .before .before .args .sh .outs = rw e (sym (outs-are (c .before .before .before .before .before .pre .0 .divided))) in
-    rw all at (c .before .loop .inv .2)
+returns c =
+    let args = c .before .before .before .before .before .args in
+    let pre = c .before .before .before .before .before .pre in
+    let loop = c .before .loop in
+    let e : loop .g ≡ args .sh .groups = omega arith in
+    let all : loop .g * outputsPerGroup (args .sh) ≡ args .sh .outs = rw e (sym (outs-are (pre .0 .divided))) in
+    rw all at (loop .inv .2)
 
 pub outputs-spec : {M : Type 1} → statement M
 outputs-spec =

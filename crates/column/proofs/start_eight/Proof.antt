@@ -1,3 +1,4 @@
+-- `column::start_eight` meets its contract. Each lane is stored once; filled whole, that is a table. Assumes nothing.
 use mathlib.Core.Bool.{cond}
 use mathlib.Core.Path.{_≡_, sym, _∙_}
 use Prim.Native.Nat.{_+_, _-_, _≤_}
@@ -24,7 +25,9 @@ add-bias : tie.Need-add-bias Inv-loop μ-loop
 add-bias c = search needs
 
 bias-requires : tie.Need-bias-requires Inv-loop μ-loop
-bias-requires c κs = λ b. omega (arith, c .before .before .before .pre .1 b, c .loop-test .taken)
+bias-requires c κs =
+    let pre = c .before .before .before .pre in
+    λ b. omega (arith, pre .1 b, c .loop-test .taken)
 
 mul-r : tie.Need-mul-r Inv-loop μ-loop
 mul-r c = search needs
@@ -42,7 +45,9 @@ loop-again : tie.Need-loop-again Inv-loop μ-loop
 loop-again c = (search needs, search needs, search needs, fill-step _ _ _ _ _ (c .before .before .loop .inv .3) (c .bias .ensures))
 
 returns : tie.Need-returns Inv-loop μ-loop
-returns c = let e : c .before .loop .i ≡ 8 = omega arith in (rw e at (c .before .loop .inv .3)) ∙ fill-all nan _ _ _ (c .before .loop .inv .1)
+returns c =
+    let loop = c .before .loop in
+    let e : loop .i ≡ 8 = omega arith in (rw e at (loop .inv .3)) ∙ fill-all nan _ _ _ (loop .inv .1)
 
 pub start-eight-spec : {M : Type 1} → statement M
 start-eight-spec =

@@ -1,3 +1,4 @@
+-- `column::steps_back` meets its contract. The product is bounded by the ring's reach. Assumes nothing.
 use mathlib.Core.Path.{refl}
 use Prim.Native.Nat.{_-_}
 use native.Mathlib.Nat.{mul-le-mul-right}
@@ -15,7 +16,9 @@ sub-result-2 : tie.Need-sub-result-2
 sub-result-2 c = search needs
 
 mul-result : tie.Need-mul-result
-mul-result c = record { fits = omega (arith, reach-le (c .before .before .pre .0), mul-le-mul-right {m = c .before .before .args .sh .kernel - 1 - c .before .before .args .k} {n = c .before .before .args .sh .kernel - 1} (c .before .before .args .sh .dilation) (omega arith)) }
+mul-result c =
+    let args = c .before .before .args in
+    record { fits = omega (arith, reach-le (c .before .before .pre .0), mul-le-mul-right {m = args .sh .kernel - 1 - args .k} {n = args .sh .kernel - 1} (args .sh .dilation) (omega arith)) }
 
 returns : tie.Need-returns
 unfolding stepsBack

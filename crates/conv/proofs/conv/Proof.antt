@@ -1,3 +1,4 @@
+-- `conv::conv` meets its contract. The columns before t are done; each part goes on from the memory after them, by `begun-more`. Assumes nothing.
 use mathlib.Core.Path.{_≡_, _∙_}
 use Prim.Native.Nat.{_+_, _-_, _≤_}
 use native.Mathlib.Omega.{arith}
@@ -25,53 +26,81 @@ width-requires : tie.Need-width-requires Inv-loop μ-loop
 width-requires c κs = omega (arith, c .loop-test .taken)
 
 add-part : tie.Need-add-part Inv-loop μ-loop
-add-part c = 
-    let l = c .before .before .before .before .loop in
-    let cut = c .before .before .width .ensures in
-    let le : l .t + c .before .before .width .result ≤ c .before .before .before .before .before .before .before .before .args .m = omega (arith, cut .within, c .before .before .before .loop-test .taken) in
-    let fit = part-fits (c .before .before .before .before .before .before .before .before .pre) (l .inv .4) (c .before .before .width .result) _ _ (cut .some) le (l .inv .3) (l .inv .1) in
+add-part c =
+    let args = c .before .before .before .before .before .before .before .before .args in
+    let pre = c .before .before .before .before .before .before .before .before .pre in
+    let loop = c .before .before .before .before .loop in
+    let loop-test = c .before .before .before .loop-test in
+    let width = c .before .before .width in
+    let l = loop in
+    let cut = width .ensures in
+    let le : l .t + width .result ≤ args .m = omega (arith, cut .within, loop-test .taken) in
+    let fit = part-fits (pre) (l .inv .4) (width .result) _ _ (cut .some) le (l .inv .3) (l .inv .1) in
     omega (arith, fit .x-in 0 (fit .parts .range .ins-low), fit .out-in 0 (fit .parts .range .outs-low))
 
 add-part-2 : tie.Need-add-part-2 Inv-loop μ-loop
-add-part-2 c = 
-    let l = c .before .before .before .before .loop in
-    let cut = c .before .before .width .ensures in
-    let le : l .t + c .before .before .width .result ≤ c .before .before .before .before .before .before .before .before .args .m = omega (arith, cut .within, c .before .before .before .loop-test .taken) in
-    let fit = part-fits (c .before .before .before .before .before .before .before .before .pre) (l .inv .4) (c .before .before .width .result) _ _ (cut .some) le (l .inv .3) (l .inv .1) in
+add-part-2 c =
+    let args = c .before .before .before .before .before .before .before .before .args in
+    let pre = c .before .before .before .before .before .before .before .before .pre in
+    let loop = c .before .before .before .before .loop in
+    let loop-test = c .before .before .before .loop-test in
+    let width = c .before .before .width in
+    let l = loop in
+    let cut = width .ensures in
+    let le : l .t + width .result ≤ args .m = omega (arith, cut .within, loop-test .taken) in
+    let fit = part-fits (pre) (l .inv .4) (width .result) _ _ (cut .some) le (l .inv .3) (l .inv .1) in
     omega (arith, fit .x-in 0 (fit .parts .range .ins-low), fit .out-in 0 (fit .parts .range .outs-low))
 
 part-requires : tie.Need-part-requires Inv-loop μ-loop
-part-requires c κs = 
-    let l = c .before .before .before .before .loop in
-    let cut = c .before .before .width .ensures in
-    let le : l .t + c .before .before .width .result ≤ c .before .before .before .before .before .before .before .before .args .m = omega (arith, cut .within, c .before .before .before .loop-test .taken) in
-    (part-fits (c .before .before .before .before .before .before .before .before .pre) (l .inv .4) (c .before .before .width .result) _ _ (cut .some) le (l .inv .3) (l .inv .1), cut .whole)
+part-requires c κs =
+    let args = c .before .before .before .before .before .before .before .before .args in
+    let pre = c .before .before .before .before .before .before .before .before .pre in
+    let loop = c .before .before .before .before .loop in
+    let loop-test = c .before .before .before .loop-test in
+    let width = c .before .before .width in
+    let l = loop in
+    let cut = width .ensures in
+    let le : l .t + width .result ≤ args .m = omega (arith, cut .within, loop-test .taken) in
+    (part-fits (pre) (l .inv .4) (width .result) _ _ (cut .some) le (l .inv .3) (l .inv .1), cut .whole)
 
 add-t : tie.Need-add-t Inv-loop μ-loop
-add-t c = 
-    let l = c .before .before .before .before .before .before .before .before .before .loop in
-    let cut = c .before .before .before .before .before .before .before .width .ensures in
-    let le : l .t + c .before .before .before .before .before .before .before .width .result ≤ c .before .before .before .before .before .before .before .before .before .before .before .before .before .args .m = omega (arith, cut .within, c .before .before .before .before .before .before .before .before .loop-test .taken) in
+add-t c =
+    let args = c .before .before .before .before .before .before .before .before .before .before .before .before .before .args in
+    let loop = c .before .before .before .before .before .before .before .before .before .loop in
+    let loop-test = c .before .before .before .before .before .before .before .before .loop-test in
+    let width = c .before .before .before .before .before .before .before .width in
+    let l = loop in
+    let cut = width .ensures in
+    let le : l .t + width .result ≤ args .m = omega (arith, cut .within, loop-test .taken) in
     omega (arith, le)
 
 loop-less : tie.Need-loop-less Inv-loop μ-loop
-loop-less c = 
-    let l = c .before .before .before .before .before .before .before .before .before .loop in
-    let cut = c .before .before .before .before .before .before .before .width .ensures in
-    let le : l .t + c .before .before .before .before .before .before .before .width .result ≤ c .before .before .before .before .before .before .before .before .before .before .before .before .before .args .m = omega (arith, cut .within, c .before .before .before .before .before .before .before .before .loop-test .taken) in
+loop-less c =
+    let args = c .before .before .before .before .before .before .before .before .before .before .before .before .before .args in
+    let loop = c .before .before .before .before .before .before .before .before .before .loop in
+    let loop-test = c .before .before .before .before .before .before .before .before .loop-test in
+    let width = c .before .before .before .before .before .before .before .width in
+    let l = loop in
+    let cut = width .ensures in
+    let le : l .t + width .result ≤ args .m = omega (arith, cut .within, loop-test .taken) in
     omega (arith, le, cut .some)
 
 loop-again : tie.Need-loop-again Inv-loop μ-loop
-loop-again c = 
-    let l = c .before .before .before .before .before .before .before .before .before .loop in
-    let cut = c .before .before .before .before .before .before .before .width .ensures in
-    let le : l .t + c .before .before .before .before .before .before .before .width .result ≤ c .before .before .before .before .before .before .before .before .before .before .before .before .before .args .m = omega (arith, cut .within, c .before .before .before .before .before .before .before .before .loop-test .taken) in
-    (
+loop-again c =
+    let args = c .before .before .before .before .before .before .before .before .before .before .before .before .before .args in
+    let pre = c .before .before .before .before .before .before .before .before .before .before .before .before .before .pre in
+    let loop = c .before .before .before .before .before .before .before .before .before .loop in
+    let loop-test = c .before .before .before .before .before .before .before .before .loop-test in
+    let width = c .before .before .before .before .before .before .before .width in
+    let part = c .before .before .before .before .part in
+    let l = loop in
+    let cut = width .ensures in
+    let le : l .t + width .result ≤ args .m = omega (arith, cut .within, loop-test .taken) in (
       le,
-      omega (arith, c .before .before .before .before .part .kept .0, l .inv .1),
-      omega (arith, c .before .before .before .before .part .kept .1 .0, l .inv .2),
-      c .before .before .before .before .part .ensures .1 ∙ l .inv .3,
-      begun-more (c .before .before .before .before .before .before .before .before .before .before .before .before .before .pre) (l .inv .4) (c .before .before .before .before .before .before .before .width .result) _ _ le (c .before .before .before .before .part .ensures .0),
+      omega (arith, part .kept .0, l .inv .1),
+      omega (arith, part .kept .1 .0, l .inv .2),
+      part .ensures .1 ∙ l .inv .3,
+      begun-more (pre) (l .inv .4) (width .result) _ _ le (part .ensures .0),
     )
 
 same-length : tie.Need-same-length Inv-loop μ-loop
@@ -81,7 +110,10 @@ same-length-2 : tie.Need-same-length-2 Inv-loop μ-loop
 same-length-2 c = search needs
 
 returns : tie.Need-returns Inv-loop μ-loop
-returns c = let e : c .before .loop .t ≡ c .before .before .before .before .before .args .m = omega (arith, c .before .loop .inv .0, c .loop-test .left) in (begun-all (rw e at (c .before .loop .inv .4)), c .before .loop .inv .3)
+returns c =
+    let args = c .before .before .before .before .before .args in
+    let loop = c .before .loop in
+    let e : loop .t ≡ args .m = omega (arith, loop .inv .0, c .loop-test .left) in (begun-all (rw e at (loop .inv .4)), loop .inv .3)
 
 pub conv-spec : {M : Type 1} → statement M
 conv-spec =

@@ -1,5 +1,5 @@
+-- `conv::in_place` meets its contract. By the two cases of the test. Assumes nothing.
 use mathlib.Core.Path.{subst, sym}
-use Prim.Native.Nat.{_-_}
 use lib.Dec.{T}
 use Rattle.conv.proofs.in_place.Statement.{statement}
 use Rattle.conv.proofs.in_place.Tie as tie

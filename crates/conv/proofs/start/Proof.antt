@@ -1,3 +1,4 @@
+-- `conv::start` meets its contract. One row more a turn, by `start-turn`. Assumes nothing.
 use mathlib.Core.Path.{_≡_}
 use Prim.Native.Nat.{_+_, _-_, _≤_}
 use native.Mathlib.Omega.{arith}
@@ -26,19 +27,33 @@ loop-holds : tie.Need-loop-holds Inv-loop μ-loop
 loop-holds c = (search needs, search needs, rows-none _ _ _ _ _)
 
 add-bias : tie.Need-add-bias Inv-loop μ-loop
-add-bias c = omega (arith, c .before .before .kernel-count .ensures, kernel-le (c .before .before .before .before .before .pre .0), c .before .before .before .before .before .pre .0 .outs-high, c .loop-test .taken)
+add-bias c =
+    let pre = c .before .before .before .before .before .pre in
+    omega (arith, c .before .before .kernel-count .ensures, kernel-le (pre .0), pre .0 .outs-high, c .loop-test .taken)
 
 bias-requires : tie.Need-bias-requires Inv-loop μ-loop
-bias-requires c κs = λ b. omega (arith, c .before .before .kernel-count .ensures, bias-in (c .before .before .before .before .before .args .sh) (c .before .loop .o + 1) _ (c .before .before .before .before .before .pre .2) (omega (arith, c .loop-test .taken)) b)
+bias-requires c κs =
+    let args = c .before .before .before .before .before .args in
+    let pre = c .before .before .before .before .before .pre in
+    λ b. omega (arith, c .before .before .kernel-count .ensures, bias-in (args .sh) (c .before .loop .o + 1) _ (pre .2) (omega (arith, c .loop-test .taken)) b)
 
 mul-flat : tie.Need-mul-flat Inv-loop μ-loop
-mul-flat c = omega (arith, c .before .before .before .before .before .before .before .pre .3 (c .before .before .before .loop .o) (c .before .before .loop-test .taken), c .before .before .before .loop .inv .1)
+mul-flat c =
+    let pre = c .before .before .before .before .before .before .before .pre in
+    let loop = c .before .before .before .loop in
+    omega (arith, pre .3 (loop .o) (c .before .before .loop-test .taken), loop .inv .1)
 
 add-flat : tie.Need-add-flat Inv-loop μ-loop
-add-flat c = omega (arith, c .before .before .before .before .before .before .before .pre .3 (c .before .before .before .loop .o) (c .before .before .loop-test .taken), c .before .before .before .loop .inv .1)
+add-flat c =
+    let pre = c .before .before .before .before .before .before .before .pre in
+    let loop = c .before .before .before .loop in
+    omega (arith, pre .3 (loop .o) (c .before .before .loop-test .taken), loop .inv .1)
 
 flat-requires : tie.Need-flat-requires Inv-loop μ-loop
-flat-requires c κs = omega (arith, c .before .before .before .before .before .before .before .pre .3 (c .before .before .before .loop .o) (c .before .before .loop-test .taken), c .before .before .before .loop .inv .1)
+flat-requires c κs =
+    let pre = c .before .before .before .before .before .before .before .pre in
+    let loop = c .before .before .before .loop in
+    omega (arith, pre .3 (loop .o) (c .before .before .loop-test .taken), loop .inv .1)
 
 add-o : tie.Need-add-o Inv-loop μ-loop
 add-o c = search needs
@@ -47,17 +62,25 @@ loop-less : tie.Need-loop-less Inv-loop μ-loop
 loop-less c = search needs
 
 loop-again : tie.Need-loop-again Inv-loop μ-loop
-loop-again c = (
+loop-again c =
+    let args = c .before .before .before .before .before .before .before .before .before .before .args in
+    let kernel-count = c .before .before .before .before .before .before .before .kernel-count in
+    let loop = c .before .before .before .before .before .before .loop in
+    let bias = c .before .before .before .before .bias in
+    let flat = c .before .before .flat in (
       search needs,
-      omega (arith, c .before .before .flat .kept .0, c .before .before .before .before .before .before .loop .inv .1),
-      start-turn (c .before .before .before .before .before .before .before .before .before .before .args .sh) _ _ (c .before .before .before .before .before .before .loop .work) _ _ _ _ _ _ _ (c .before .before .before .before .before .before .before .kernel-count .ensures) (c .before .before .before .before .before .before .loop .inv .2) (c .before .before .before .before .bias .ensures) (c .before .before .flat .ensures),
+      omega (arith, flat .kept .0, loop .inv .1),
+      start-turn (args .sh) _ _ (loop .work) _ _ _ _ _ _ _ (kernel-count .ensures) (loop .inv .2) (bias .ensures) (flat .ensures),
     )
 
 same-length : tie.Need-same-length Inv-loop μ-loop
 same-length c = search needs
 
 returns : tie.Need-returns Inv-loop μ-loop
-returns c = let e : c .before .loop .o ≡ c .before .before .before .before .before .args .sh .outs = omega arith in rw e at (c .before .loop .inv .2)
+returns c =
+    let args = c .before .before .before .before .before .args in
+    let loop = c .before .loop in
+    let e : loop .o ≡ args .sh .outs = omega arith in rw e at (loop .inv .2)
 
 pub start-spec : {M : Type 1} → statement M
 start-spec =

@@ -1,3 +1,4 @@
+-- `conv::tap` meets its contract. One group more a turn, by `tap-turn`. Assumes nothing.
 use mathlib.Core.Path.{_≡_, sym}
 use Prim.Native.Nat.{_+_, _*_, _-_, _≤_}
 use native.Mathlib.Omega.{arith}
@@ -24,7 +25,9 @@ loop-holds : tie.Need-loop-holds Inv-loop μ-loop
 loop-holds c = let none : 0 * outputsPerGroup (c .before .before .args .sh) ≡ 0 = omega arith in (search needs, search needs, rw none (rows-none _ _ _ _ _))
 
 tap-group-requires : tie.Need-tap-group-requires Inv-loop μ-loop
-tap-group-requires c κs = (rw (c .before .before .loop .inv .1) (c .before .before .before .before .before .pre), c .before .loop-test .taken)
+tap-group-requires c κs =
+    let pre = c .before .before .before .before .before .pre in
+    (rw (c .before .before .loop .inv .1) (pre), c .before .loop-test .taken)
 
 add-g : tie.Need-add-g Inv-loop μ-loop
 add-g c = search needs
@@ -33,19 +36,28 @@ loop-less : tie.Need-loop-less Inv-loop μ-loop
 loop-less c = search needs
 
 loop-again : tie.Need-loop-again Inv-loop μ-loop
-loop-again c = (
+loop-again c =
+    let pre = c .before .before .before .before .before .before .before .before .pre in
+    let args = c .before .before .before .before .before .before .before .before .args in
+    let loop = c .before .before .before .before .before .loop in
+    let loop-test = c .before .before .before .before .loop-test in
+    let tap-group = c .before .before .tap-group in (
       search needs,
-      omega (arith, c .before .before .tap-group .kept .0, c .before .before .before .before .before .loop .inv .1),
-      tap-turn (c .before .before .before .before .before .before .before .before .pre) _ (c .before .before .before .before .before .before .before .before .args .work .now) (c .before .before .before .before .before .loop .work) _ (c .before .before .before .before .before .loop .g) (c .before .before .before .before .loop-test .taken) (c .before .before .before .before .before .loop .inv .2) (c .before .before .tap-group .ensures),
+      omega (arith, tap-group .kept .0, loop .inv .1),
+      tap-turn (pre) _ (args .work .now) (loop .work) _ (loop .g) (loop-test .taken) (loop .inv .2) (tap-group .ensures),
     )
 
 same-length : tie.Need-same-length Inv-loop μ-loop
 same-length c = search needs
 
 returns : tie.Need-returns Inv-loop μ-loop
-returns c = let e : c .before .loop .g ≡ c .before .before .before .before .args .sh .groups = omega arith in
-    let all : c .before .loop .g * outputsPerGroup (c .before .before .before .before .args .sh) ≡ c .before .before .before .before .args .sh .outs = rw e (sym (outs-are (c .before .before .before .before .pre .divided))) in
-    rw all at (c .before .loop .inv .2)
+returns c =
+    let args = c .before .before .before .before .args in
+    let pre = c .before .before .before .before .pre in
+    let loop = c .before .loop in
+    let e : loop .g ≡ args .sh .groups = omega arith in
+    let all : loop .g * outputsPerGroup (args .sh) ≡ args .sh .outs = rw e (sym (outs-are (pre .divided))) in
+    rw all at (loop .inv .2)
 
 pub tap-spec : {M : Type 1} → statement M
 tap-spec =

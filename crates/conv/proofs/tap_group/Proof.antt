@@ -1,3 +1,4 @@
+-- `conv::tap_group` meets its contract. One output's row more a turn, by `group-turn`. Assumes nothing.
 use mathlib.Core.Path.{_≡_, refl, sym}
 use Prim.Native.Nat.{_+_, _*_, _-_, _≤_}
 use native.Mathlib.Nat.{le-mul-of-pos-right}
@@ -25,100 +26,153 @@ inputs-per-group-requires : tie.Need-inputs-per-group-requires Inv-loop μ-loop
 inputs-per-group-requires c κs = c .before .before .pre .0 .range
 
 outputs-per-group-requires : tie.Need-outputs-per-group-requires Inv-loop μ-loop
-outputs-per-group-requires c κs = c .before .before .before .pre .0 .range
+outputs-per-group-requires c κs =
+    let pre = c .before .before .before .pre in
+    pre .0 .range
 
 mul-row : tie.Need-mul-row Inv-loop μ-loop
-mul-row c = 
+mul-row c =
+    let pre = c .before .before .before .before .pre in
+    let args = c .before .before .before .before .args in
     let e1 = c .before .inputs-per-group .ensures in
     let e2 = c .outputs-per-group .ensures in
-    let fit = row-fits (c .before .before .before .before .pre .0) (c .before .before .before .before .args .g) 0 _ _ _ (c .before .before .before .before .pre .1) (rw e2 (some-out (c .before .before .before .before .pre .0 .divided) (c .before .before .before .before .pre .0 .range))) e1 e2 refl in
-    omega (arith, fit .inputs .inputs-in 0 (fit .some), rw (sym e1) at (inputs-end (c .before .before .before .before .pre .0 .divided) (c .before .before .before .before .pre .0 .range) (c .before .before .before .before .args .g) (c .before .before .before .before .pre .1)), c .before .before .before .before .pre .0 .range .ins-high)
+    let fit = row-fits (pre .0) (args .g) 0 _ _ _ (pre .1) (rw e2 (some-out (pre .0 .divided) (pre .0 .range))) e1 e2 refl in
+    omega (arith, fit .inputs .inputs-in 0 (fit .some), rw (sym e1) at (inputs-end (pre .0 .divided) (pre .0 .range) (args .g) (pre .1)), pre .0 .range .ins-high)
 
 mul-row-2 : tie.Need-mul-row-2 Inv-loop μ-loop
-mul-row-2 c = 
+mul-row-2 c =
+    let pre = c .before .before .before .before .pre in
+    let args = c .before .before .before .before .args in
     let e1 = c .before .inputs-per-group .ensures in
     let e2 = c .outputs-per-group .ensures in
-    let fit = row-fits (c .before .before .before .before .pre .0) (c .before .before .before .before .args .g) 0 _ _ _ (c .before .before .before .before .pre .1) (rw e2 (some-out (c .before .before .before .before .pre .0 .divided) (c .before .before .before .before .pre .0 .range))) e1 e2 refl in
-    omega (arith, fit .inputs .inputs-in 0 (fit .some), rw (sym e1) at (inputs-end (c .before .before .before .before .pre .0 .divided) (c .before .before .before .before .pre .0 .range) (c .before .before .before .before .args .g) (c .before .before .before .before .pre .1)), c .before .before .before .before .pre .0 .range .ins-high)
+    let fit = row-fits (pre .0) (args .g) 0 _ _ _ (pre .1) (rw e2 (some-out (pre .0 .divided) (pre .0 .range))) e1 e2 refl in
+    omega (arith, fit .inputs .inputs-in 0 (fit .some), rw (sym e1) at (inputs-end (pre .0 .divided) (pre .0 .range) (args .g) (pre .1)), pre .0 .range .ins-high)
 
 add-row : tie.Need-add-row Inv-loop μ-loop
-add-row c = 
+add-row c =
+    let pre = c .before .before .before .before .pre in
+    let args = c .before .before .before .before .args in
     let e1 = c .before .inputs-per-group .ensures in
     let e2 = c .outputs-per-group .ensures in
-    let fit = row-fits (c .before .before .before .before .pre .0) (c .before .before .before .before .args .g) 0 _ _ _ (c .before .before .before .before .pre .1) (rw e2 (some-out (c .before .before .before .before .pre .0 .divided) (c .before .before .before .before .pre .0 .range))) e1 e2 refl in
-    omega (arith, fit .inputs .inputs-in 0 (fit .some), rw (sym e1) at (inputs-end (c .before .before .before .before .pre .0 .divided) (c .before .before .before .before .pre .0 .range) (c .before .before .before .before .args .g) (c .before .before .before .before .pre .1)), c .before .before .before .before .pre .0 .range .ins-high)
+    let fit = row-fits (pre .0) (args .g) 0 _ _ _ (pre .1) (rw e2 (some-out (pre .0 .divided) (pre .0 .range))) e1 e2 refl in
+    omega (arith, fit .inputs .inputs-in 0 (fit .some), rw (sym e1) at (inputs-end (pre .0 .divided) (pre .0 .range) (args .g) (pre .1)), pre .0 .range .ins-high)
 
 loop-holds : tie.Need-loop-holds Inv-loop μ-loop
 loop-holds c = (search needs, search needs, rows-none _ _ _ _ _)
 
 mul-o : tie.Need-mul-o Inv-loop μ-loop
-mul-o c = 
-    let e1 = c .before .before .before .inputs-per-group .ensures in
-    let e2 = c .before .before .outputs-per-group .ensures in
-    let fit = row-fits (c .before .before .before .before .before .before .pre .0) (c .before .before .before .before .before .before .args .g) (c .before .loop .i) _ _ _ (c .before .before .before .before .before .before .pre .1) (c .loop-test .taken) e1 e2 refl in
+mul-o c =
+    let pre = c .before .before .before .before .before .before .pre in
+    let args = c .before .before .before .before .before .before .args in
+    let inputs-per-group = c .before .before .before .inputs-per-group in
+    let outputs-per-group = c .before .before .outputs-per-group in
+    let loop = c .before .loop in
+    let e1 = inputs-per-group .ensures in
+    let e2 = outputs-per-group .ensures in
+    let fit = row-fits (pre .0) (args .g) (loop .i) _ _ _ (pre .1) (c .loop-test .taken) e1 e2 refl in
     let weight = fit .inputs .weights-in 0 (fit .some) in
-    let some-weight = le-mul-of-pos-right {m = c .before .before .before .before .before .before .args .sh .kernel} ((c .before .before .before .before .before .before .args .g * c .before .before .outputs-per-group .result + c .before .loop .i) * c .before .before .before .inputs-per-group .result) (c .before .before .before .before .before .before .pre .0 .range .kernel-low) in
-    omega (arith, fit .sums-in, weight, some-weight, rw (sym e2) at (group-end (c .before .before .before .before .before .before .pre .0 .divided) (c .before .before .before .before .before .before .pre .0 .range) (c .before .before .before .before .before .before .args .g) (c .before .before .before .before .before .before .pre .1)), c .before .before .before .before .before .before .pre .0 .range .outs-high, c .loop-test .taken)
+    let some-weight = le-mul-of-pos-right {m = args .sh .kernel} ((args .g * outputs-per-group .result + loop .i) * inputs-per-group .result) (pre .0 .range .kernel-low) in
+    omega (arith, fit .sums-in, weight, some-weight, rw (sym e2) at (group-end (pre .0 .divided) (pre .0 .range) (args .g) (pre .1)), pre .0 .range .outs-high, c .loop-test .taken)
 
 add-o : tie.Need-add-o Inv-loop μ-loop
-add-o c = 
-    let e1 = c .before .before .before .inputs-per-group .ensures in
-    let e2 = c .before .before .outputs-per-group .ensures in
-    let fit = row-fits (c .before .before .before .before .before .before .pre .0) (c .before .before .before .before .before .before .args .g) (c .before .loop .i) _ _ _ (c .before .before .before .before .before .before .pre .1) (c .loop-test .taken) e1 e2 refl in
+add-o c =
+    let pre = c .before .before .before .before .before .before .pre in
+    let args = c .before .before .before .before .before .before .args in
+    let inputs-per-group = c .before .before .before .inputs-per-group in
+    let outputs-per-group = c .before .before .outputs-per-group in
+    let loop = c .before .loop in
+    let e1 = inputs-per-group .ensures in
+    let e2 = outputs-per-group .ensures in
+    let fit = row-fits (pre .0) (args .g) (loop .i) _ _ _ (pre .1) (c .loop-test .taken) e1 e2 refl in
     let weight = fit .inputs .weights-in 0 (fit .some) in
-    let some-weight = le-mul-of-pos-right {m = c .before .before .before .before .before .before .args .sh .kernel} ((c .before .before .before .before .before .before .args .g * c .before .before .outputs-per-group .result + c .before .loop .i) * c .before .before .before .inputs-per-group .result) (c .before .before .before .before .before .before .pre .0 .range .kernel-low) in
-    omega (arith, fit .sums-in, weight, some-weight, rw (sym e2) at (group-end (c .before .before .before .before .before .before .pre .0 .divided) (c .before .before .before .before .before .before .pre .0 .range) (c .before .before .before .before .before .before .args .g) (c .before .before .before .before .before .before .pre .1)), c .before .before .before .before .before .before .pre .0 .range .outs-high, c .loop-test .taken)
+    let some-weight = le-mul-of-pos-right {m = args .sh .kernel} ((args .g * outputs-per-group .result + loop .i) * inputs-per-group .result) (pre .0 .range .kernel-low) in
+    omega (arith, fit .sums-in, weight, some-weight, rw (sym e2) at (group-end (pre .0 .divided) (pre .0 .range) (args .g) (pre .1)), pre .0 .range .outs-high, c .loop-test .taken)
 
 mul-add-row : tie.Need-mul-add-row Inv-loop μ-loop
-mul-add-row c = 
-    let e1 = c .before .before .before .before .inputs-per-group .ensures in
-    let e2 = c .before .before .before .outputs-per-group .ensures in
-    let fit = row-fits (c .before .before .before .before .before .before .before .pre .0) (c .before .before .before .before .before .before .before .args .g) (c .before .before .loop .i) _ _ _ (c .before .before .before .before .before .before .before .pre .1) (c .before .loop-test .taken) e1 e2 refl in
+mul-add-row c =
+    let pre = c .before .before .before .before .before .before .before .pre in
+    let args = c .before .before .before .before .before .before .before .args in
+    let inputs-per-group = c .before .before .before .before .inputs-per-group in
+    let outputs-per-group = c .before .before .before .outputs-per-group in
+    let loop = c .before .before .loop in
+    let loop-test = c .before .loop-test in
+    let e1 = inputs-per-group .ensures in
+    let e2 = outputs-per-group .ensures in
+    let fit = row-fits (pre .0) (args .g) (loop .i) _ _ _ (pre .1) (loop-test .taken) e1 e2 refl in
     let weight = fit .inputs .weights-in 0 (fit .some) in
-    let some-weight = le-mul-of-pos-right {m = c .before .before .before .before .before .before .before .args .sh .kernel} ((c .before .before .before .before .before .before .before .args .g * c .before .before .before .outputs-per-group .result + c .before .before .loop .i) * c .before .before .before .before .inputs-per-group .result) (c .before .before .before .before .before .before .before .pre .0 .range .kernel-low) in
-    omega (arith, fit .sums-in, weight, some-weight, rw (sym e2) at (group-end (c .before .before .before .before .before .before .before .pre .0 .divided) (c .before .before .before .before .before .before .before .pre .0 .range) (c .before .before .before .before .before .before .before .args .g) (c .before .before .before .before .before .before .before .pre .1)), c .before .before .before .before .before .before .before .pre .0 .range .outs-high, c .before .loop-test .taken)
+    let some-weight = le-mul-of-pos-right {m = args .sh .kernel} ((args .g * outputs-per-group .result + loop .i) * inputs-per-group .result) (pre .0 .range .kernel-low) in
+    omega (arith, fit .sums-in, weight, some-weight, rw (sym e2) at (group-end (pre .0 .divided) (pre .0 .range) (args .g) (pre .1)), pre .0 .range .outs-high, loop-test .taken)
 
 add-add-row : tie.Need-add-add-row Inv-loop μ-loop
-add-add-row c = 
-    let e1 = c .before .before .before .before .inputs-per-group .ensures in
-    let e2 = c .before .before .before .outputs-per-group .ensures in
-    let fit = row-fits (c .before .before .before .before .before .before .before .pre .0) (c .before .before .before .before .before .before .before .args .g) (c .before .before .loop .i) _ _ _ (c .before .before .before .before .before .before .before .pre .1) (c .before .loop-test .taken) e1 e2 refl in
+add-add-row c =
+    let pre = c .before .before .before .before .before .before .before .pre in
+    let args = c .before .before .before .before .before .before .before .args in
+    let inputs-per-group = c .before .before .before .before .inputs-per-group in
+    let outputs-per-group = c .before .before .before .outputs-per-group in
+    let loop = c .before .before .loop in
+    let loop-test = c .before .loop-test in
+    let e1 = inputs-per-group .ensures in
+    let e2 = outputs-per-group .ensures in
+    let fit = row-fits (pre .0) (args .g) (loop .i) _ _ _ (pre .1) (loop-test .taken) e1 e2 refl in
     let weight = fit .inputs .weights-in 0 (fit .some) in
-    let some-weight = le-mul-of-pos-right {m = c .before .before .before .before .before .before .before .args .sh .kernel} ((c .before .before .before .before .before .before .before .args .g * c .before .before .before .outputs-per-group .result + c .before .before .loop .i) * c .before .before .before .before .inputs-per-group .result) (c .before .before .before .before .before .before .before .pre .0 .range .kernel-low) in
-    omega (arith, fit .sums-in, weight, some-weight, rw (sym e2) at (group-end (c .before .before .before .before .before .before .before .pre .0 .divided) (c .before .before .before .before .before .before .before .pre .0 .range) (c .before .before .before .before .before .before .before .args .g) (c .before .before .before .before .before .before .before .pre .1)), c .before .before .before .before .before .before .before .pre .0 .range .outs-high, c .before .loop-test .taken)
+    let some-weight = le-mul-of-pos-right {m = args .sh .kernel} ((args .g * outputs-per-group .result + loop .i) * inputs-per-group .result) (pre .0 .range .kernel-low) in
+    omega (arith, fit .sums-in, weight, some-weight, rw (sym e2) at (group-end (pre .0 .divided) (pre .0 .range) (args .g) (pre .1)), pre .0 .range .outs-high, loop-test .taken)
 
 mul-add-row-2 : tie.Need-mul-add-row-2 Inv-loop μ-loop
-mul-add-row-2 c = 
-    let e1 = c .before .before .before .before .inputs-per-group .ensures in
-    let e2 = c .before .before .before .outputs-per-group .ensures in
-    let fit = row-fits (c .before .before .before .before .before .before .before .pre .0) (c .before .before .before .before .before .before .before .args .g) (c .before .before .loop .i) _ _ _ (c .before .before .before .before .before .before .before .pre .1) (c .before .loop-test .taken) e1 e2 refl in
+mul-add-row-2 c =
+    let pre = c .before .before .before .before .before .before .before .pre in
+    let args = c .before .before .before .before .before .before .before .args in
+    let inputs-per-group = c .before .before .before .before .inputs-per-group in
+    let outputs-per-group = c .before .before .before .outputs-per-group in
+    let loop = c .before .before .loop in
+    let loop-test = c .before .loop-test in
+    let e1 = inputs-per-group .ensures in
+    let e2 = outputs-per-group .ensures in
+    let fit = row-fits (pre .0) (args .g) (loop .i) _ _ _ (pre .1) (loop-test .taken) e1 e2 refl in
     let weight = fit .inputs .weights-in 0 (fit .some) in
-    let some-weight = le-mul-of-pos-right {m = c .before .before .before .before .before .before .before .args .sh .kernel} ((c .before .before .before .before .before .before .before .args .g * c .before .before .before .outputs-per-group .result + c .before .before .loop .i) * c .before .before .before .before .inputs-per-group .result) (c .before .before .before .before .before .before .before .pre .0 .range .kernel-low) in
-    omega (arith, fit .sums-in, weight, some-weight, rw (sym e2) at (group-end (c .before .before .before .before .before .before .before .pre .0 .divided) (c .before .before .before .before .before .before .before .pre .0 .range) (c .before .before .before .before .before .before .before .args .g) (c .before .before .before .before .before .before .before .pre .1)), c .before .before .before .before .before .before .before .pre .0 .range .outs-high, c .before .loop-test .taken)
+    let some-weight = le-mul-of-pos-right {m = args .sh .kernel} ((args .g * outputs-per-group .result + loop .i) * inputs-per-group .result) (pre .0 .range .kernel-low) in
+    omega (arith, fit .sums-in, weight, some-weight, rw (sym e2) at (group-end (pre .0 .divided) (pre .0 .range) (args .g) (pre .1)), pre .0 .range .outs-high, loop-test .taken)
 
 mul-add-row-3 : tie.Need-mul-add-row-3 Inv-loop μ-loop
-mul-add-row-3 c = 
-    let e1 = c .before .before .before .before .inputs-per-group .ensures in
-    let e2 = c .before .before .before .outputs-per-group .ensures in
-    let fit = row-fits (c .before .before .before .before .before .before .before .pre .0) (c .before .before .before .before .before .before .before .args .g) (c .before .before .loop .i) _ _ _ (c .before .before .before .before .before .before .before .pre .1) (c .before .loop-test .taken) e1 e2 refl in
+mul-add-row-3 c =
+    let pre = c .before .before .before .before .before .before .before .pre in
+    let args = c .before .before .before .before .before .before .before .args in
+    let inputs-per-group = c .before .before .before .before .inputs-per-group in
+    let outputs-per-group = c .before .before .before .outputs-per-group in
+    let loop = c .before .before .loop in
+    let loop-test = c .before .loop-test in
+    let e1 = inputs-per-group .ensures in
+    let e2 = outputs-per-group .ensures in
+    let fit = row-fits (pre .0) (args .g) (loop .i) _ _ _ (pre .1) (loop-test .taken) e1 e2 refl in
     let weight = fit .inputs .weights-in 0 (fit .some) in
-    let some-weight = le-mul-of-pos-right {m = c .before .before .before .before .before .before .before .args .sh .kernel} ((c .before .before .before .before .before .before .before .args .g * c .before .before .before .outputs-per-group .result + c .before .before .loop .i) * c .before .before .before .before .inputs-per-group .result) (c .before .before .before .before .before .before .before .pre .0 .range .kernel-low) in
-    omega (arith, fit .sums-in, weight, some-weight, rw (sym e2) at (group-end (c .before .before .before .before .before .before .before .pre .0 .divided) (c .before .before .before .before .before .before .before .pre .0 .range) (c .before .before .before .before .before .before .before .args .g) (c .before .before .before .before .before .before .before .pre .1)), c .before .before .before .before .before .before .before .pre .0 .range .outs-high, c .before .loop-test .taken)
+    let some-weight = le-mul-of-pos-right {m = args .sh .kernel} ((args .g * outputs-per-group .result + loop .i) * inputs-per-group .result) (pre .0 .range .kernel-low) in
+    omega (arith, fit .sums-in, weight, some-weight, rw (sym e2) at (group-end (pre .0 .divided) (pre .0 .range) (args .g) (pre .1)), pre .0 .range .outs-high, loop-test .taken)
 
 add-add-row-2 : tie.Need-add-add-row-2 Inv-loop μ-loop
-add-add-row-2 c = 
-    let e1 = c .before .before .before .before .inputs-per-group .ensures in
-    let e2 = c .before .before .before .outputs-per-group .ensures in
-    let fit = row-fits (c .before .before .before .before .before .before .before .pre .0) (c .before .before .before .before .before .before .before .args .g) (c .before .before .loop .i) _ _ _ (c .before .before .before .before .before .before .before .pre .1) (c .before .loop-test .taken) e1 e2 refl in
+add-add-row-2 c =
+    let pre = c .before .before .before .before .before .before .before .pre in
+    let args = c .before .before .before .before .before .before .before .args in
+    let inputs-per-group = c .before .before .before .before .inputs-per-group in
+    let outputs-per-group = c .before .before .before .outputs-per-group in
+    let loop = c .before .before .loop in
+    let loop-test = c .before .loop-test in
+    let e1 = inputs-per-group .ensures in
+    let e2 = outputs-per-group .ensures in
+    let fit = row-fits (pre .0) (args .g) (loop .i) _ _ _ (pre .1) (loop-test .taken) e1 e2 refl in
     let weight = fit .inputs .weights-in 0 (fit .some) in
-    let some-weight = le-mul-of-pos-right {m = c .before .before .before .before .before .before .before .args .sh .kernel} ((c .before .before .before .before .before .before .before .args .g * c .before .before .before .outputs-per-group .result + c .before .before .loop .i) * c .before .before .before .before .inputs-per-group .result) (c .before .before .before .before .before .before .before .pre .0 .range .kernel-low) in
-    omega (arith, fit .sums-in, weight, some-weight, rw (sym e2) at (group-end (c .before .before .before .before .before .before .before .pre .0 .divided) (c .before .before .before .before .before .before .before .pre .0 .range) (c .before .before .before .before .before .before .before .args .g) (c .before .before .before .before .before .before .before .pre .1)), c .before .before .before .before .before .before .before .pre .0 .range .outs-high, c .before .loop-test .taken)
+    let some-weight = le-mul-of-pos-right {m = args .sh .kernel} ((args .g * outputs-per-group .result + loop .i) * inputs-per-group .result) (pre .0 .range .kernel-low) in
+    omega (arith, fit .sums-in, weight, some-weight, rw (sym e2) at (group-end (pre .0 .divided) (pre .0 .range) (args .g) (pre .1)), pre .0 .range .outs-high, loop-test .taken)
 
 add-row-requires : tie.Need-add-row-requires Inv-loop μ-loop
-add-row-requires c κs = 
-    let e1 = c .before .before .before .before .inputs-per-group .ensures in
-    let e2 = c .before .before .before .outputs-per-group .ensures in
-    row-fits (c .before .before .before .before .before .before .before .pre .0) (c .before .before .before .before .before .before .before .args .g) (c .before .before .loop .i) _ _ _ (c .before .before .before .before .before .before .before .pre .1) (c .before .loop-test .taken) e1 e2 (c .before .before .loop .inv .1)
+add-row-requires c κs =
+    let pre = c .before .before .before .before .before .before .before .pre in
+    let args = c .before .before .before .before .before .before .before .args in
+    let inputs-per-group = c .before .before .before .before .inputs-per-group in
+    let outputs-per-group = c .before .before .before .outputs-per-group in
+    let loop = c .before .before .loop in
+    let e1 = inputs-per-group .ensures in
+    let e2 = outputs-per-group .ensures in
+    row-fits (pre .0) (args .g) (loop .i) _ _ _ (pre .1) (c .before .loop-test .taken) e1 e2 (loop .inv .1)
 
 add-i : tie.Need-add-i Inv-loop μ-loop
 add-i c = search needs
@@ -127,20 +181,29 @@ loop-less : tie.Need-loop-less Inv-loop μ-loop
 loop-less c = search needs
 
 loop-again : tie.Need-loop-again Inv-loop μ-loop
-loop-again c = 
-    let e1 = c .before .before .before .before .before .before .before .inputs-per-group .ensures in
-    let e2 = c .before .before .before .before .before .before .outputs-per-group .ensures in
-    (
+loop-again c =
+    let pre = c .before .before .before .before .before .before .before .before .before .before .pre in
+    let args = c .before .before .before .before .before .before .before .before .before .before .args in
+    let inputs-per-group = c .before .before .before .before .before .before .before .inputs-per-group in
+    let outputs-per-group = c .before .before .before .before .before .before .outputs-per-group in
+    let loop = c .before .before .before .before .before .loop in
+    let loop-test = c .before .before .before .before .loop-test in
+    let add-row = c .before .before .add-row in
+    let e1 = inputs-per-group .ensures in
+    let e2 = outputs-per-group .ensures in (
       search needs,
-      omega (arith, c .before .before .add-row .kept .0, c .before .before .before .before .before .loop .inv .1),
-      group-turn (c .before .before .before .before .before .before .before .before .before .before .pre .0) _ (c .before .before .before .before .before .before .before .before .before .before .args .work .now) (c .before .before .before .before .before .loop .work) _ (c .before .before .before .before .before .before .before .before .before .before .args .g) (c .before .before .before .before .before .loop .i) _ _ (c .before .before .before .before .before .before .before .before .before .before .pre .1) (c .before .before .before .before .loop-test .taken) e1 e2 (c .before .before .before .before .before .loop .inv .2) (c .before .before .add-row .ensures),
+      omega (arith, add-row .kept .0, loop .inv .1),
+      group-turn (pre .0) _ (args .work .now) (loop .work) _ (args .g) (loop .i) _ _ (pre .1) (loop-test .taken) e1 e2 (loop .inv .2) (add-row .ensures),
     )
 
 same-length : tie.Need-same-length Inv-loop μ-loop
 same-length c = search needs
 
 returns : tie.Need-returns Inv-loop μ-loop
-returns c = let e : c .before .loop .i ≡ c .before .before .outputs-per-group .result = omega arith in rw (c .before .before .outputs-per-group .ensures) at (rw e at (c .before .loop .inv .2))
+returns c =
+    let outputs-per-group = c .before .before .outputs-per-group in
+    let loop = c .before .loop in
+    let e : loop .i ≡ outputs-per-group .result = omega arith in rw (outputs-per-group .ensures) at (rw e at (loop .inv .2))
 
 pub tap-group-spec : {M : Type 1} → statement M
 tap-group-spec =

@@ -1,4 +1,4 @@
-use Prim.Native.Nat.{_-_}
+-- `conv_call::apart` meets its contract. By which of the two regions starts first. Assumes nothing.
 use native.Mathlib.Omega.{arith}
 use borrow.Author.Needs.{needs}
 use Rattle.conv_call.proofs.Answers.{no, yes}

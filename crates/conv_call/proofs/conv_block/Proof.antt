@@ -1,5 +1,5 @@
+-- `conv_call::conv_block` meets its contract. Refused exactly where the sizes are wrong; otherwise `conv` says what happens. Assumes nothing.
 use mathlib.Core.Path.{refl}
-use Prim.Native.Nat.{_-_}
 use borrow.Author.Needs.{needs}
 use Rattle.conv_call.proofs.Answers.{never, not-yes, not-no}
 use Rattle.conv_call.proofs.conv_block.Statement.{statement}
@@ -15,7 +15,10 @@ ring-length-requires : tie.Need-ring-length-requires
 ring-length-requires c κs = c .before .call-fits .ensures .0 (not-no _ (c .if1 .left)) .fits .parts .range
 
 conv-requires : tie.Need-conv-requires
-conv-requires c κs = rw (c .before .before .ring-length .ensures) (c .before .before .before .before .call-fits .ensures .0 (not-no _ (c .before .before .before .if1 .left)) .fits)
+conv-requires c κs =
+    let call-fits = c .before .before .before .before .call-fits in
+    let if1 = c .before .before .before .if1 in
+    rw (c .before .before .ring-length .ensures) (call-fits .ensures .0 (not-no _ (if1 .left)) .fits)
 
 same-length : tie.Need-same-length
 same-length c = search needs
@@ -24,7 +27,11 @@ same-length-2 : tie.Need-same-length-2
 same-length-2 c = search needs
 
 returns-2 : tie.Need-returns-2
-returns-2 c = record { played = λ h. (refl, c .before .before .before .before .conv .ensures .0); refused = λ h. absurd (h (c .before .before .before .before .before .before .before .before .before .call-fits .ensures .0 (not-no _ (c .before .before .before .before .before .before .before .before .if1 .left)))) }
+returns-2 c =
+    let call-fits = c .before .before .before .before .before .before .before .before .before .call-fits in
+    let if1 = c .before .before .before .before .before .before .before .before .if1 in
+    let conv = c .before .before .before .before .conv in
+    record { played = λ h. (refl, conv .ensures .0); refused = λ h. absurd (h (call-fits .ensures .0 (not-no _ (if1 .left)))) }
 
 pub conv-block-spec : {M : Type 1} → statement M
 conv-block-spec =

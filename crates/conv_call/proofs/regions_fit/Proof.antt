@@ -1,4 +1,4 @@
-use Prim.Native.Nat.{_-_}
+-- `conv_call::regions_fit` meets its contract. Each test refuses exactly its own field. Assumes nothing.
 use borrow.Author.Needs.{needs}
 use Rattle.conv_call.proofs.Answers.{no, yes, never, not-yes, not-no}
 use Rattle.conv_call.proofs.regions_fit.Statement.{statement}
@@ -41,7 +41,17 @@ returns-6 : tie.Need-returns-6
 returns-6 c = no (λ h. never (c .before .apart3 .ensures) (not-yes _ (c .if6 .taken)) (h .rows-x))
 
 returns-7 : tie.Need-returns-7
-returns-7 c = yes (record { x-in = c .before .before .before .before .before .before .before .before .before .before .before .region .ensures .0 (not-no _ (c .before .before .before .before .before .before .before .before .before .before .if1 .left)); out-in = c .before .before .before .before .before .before .before .before .before .region2 .ensures .0 (not-no _ (c .before .before .before .before .before .before .before .before .if2 .left)); rows-in = c .before .before .before .before .before .before .before .region3 .ensures .0 (not-no _ (c .before .before .before .before .before .before .if3 .left)); out-x = c .before .before .before .before .before .apart .ensures .0 (not-no _ (c .before .before .before .before .if4 .left)); out-rows = c .before .before .before .apart2 .ensures .0 (not-no _ (c .before .before .if5 .left)); rows-x = c .before .apart3 .ensures .0 (not-no _ (c .if6 .left)) })
+returns-7 c =
+    let region = c .before .before .before .before .before .before .before .before .before .before .before .region in
+    let if1 = c .before .before .before .before .before .before .before .before .before .before .if1 in
+    let region2 = c .before .before .before .before .before .before .before .before .before .region2 in
+    let if2 = c .before .before .before .before .before .before .before .before .if2 in
+    let region3 = c .before .before .before .before .before .before .before .region3 in
+    let if3 = c .before .before .before .before .before .before .if3 in
+    let apart = c .before .before .before .before .before .apart in
+    let if4 = c .before .before .before .before .if4 in
+    let apart2 = c .before .before .before .apart2 in
+    yes (record { x-in = region .ensures .0 (not-no _ (if1 .left)); out-in = region2 .ensures .0 (not-no _ (if2 .left)); rows-in = region3 .ensures .0 (not-no _ (if3 .left)); out-x = apart .ensures .0 (not-no _ (if4 .left)); out-rows = apart2 .ensures .0 (not-no _ (c .before .before .if5 .left)); rows-x = c .before .apart3 .ensures .0 (not-no _ (c .if6 .left)) })
 
 pub regions-fit-spec : {M : Type 1} → statement M
 regions-fit-spec =

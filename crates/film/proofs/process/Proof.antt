@@ -1,3 +1,4 @@
+-- `film::process` meets its contract. What is read was not written yet, so each store is the rule's, by `film-turn`. Assumes nothing.
 use mathlib.Core.Path.{_≡_, sym}
 use Prim.Native.Nat.{_+_, _-_, _≤_}
 use native.Mathlib.Omega.{arith}
@@ -21,58 +22,80 @@ abbrev μ-loop : tie.MeasureT-loop
 μ-loop work₀ to from s n shifted i₀ work i = n - i
 
 loop-holds : tie.Need-loop-holds Inv-loop μ-loop
-loop-holds c = (search needs, search needs, c .before .pre .0, c .before .pre .1, c .before .pre .2, sym (fill-none _ _ _))
+loop-holds c =
+    let pre = c .before .pre in
+    (search needs, search needs, pre .0, pre .1, pre .2, sym (fill-none _ _ _))
 
 add-read : tie.Need-add-read Inv-loop μ-loop
-add-read c = let f = c .before .before .loop .inv .2 in
+add-read c =
+    let loop = c .before .before .loop in
+    let f = loop .inv .2 in
     let lt = c .before .loop-test .taken in
-    let long = c .before .before .loop .inv .1 in
-    omega (arith, f .to-in, f .scales-in, lt, long, c .before .before .loop .inv .3)
+    let long = loop .inv .1 in
+    omega (arith, f .to-in, f .scales-in, lt, long, loop .inv .3)
 
 read-requires : tie.Need-read-requires Inv-loop μ-loop
-read-requires c κs = let f = c .before .before .loop .inv .2 in
+read-requires c κs =
+    let loop = c .before .before .loop in
+    let f = loop .inv .2 in
     let lt = c .before .loop-test .taken in
-    let long = c .before .before .loop .inv .1 in
+    let long = loop .inv .1 in
     (omega (arith, f .scales-in, lt, long), λ y. omega (arith, f .shifts-in y, lt, long))
 
 add-apply : tie.Need-add-apply Inv-loop μ-loop
-add-apply c = let f = c .before .before .before .loop .inv .2 in
+add-apply c =
+    let loop = c .before .before .before .loop in
+    let f = loop .inv .2 in
     let lt = c .before .before .loop-test .taken in
-    let long = c .before .before .before .loop .inv .1 in
-    omega (arith, f .to-in, f .scales-in, lt, long, c .before .before .before .loop .inv .3)
+    let long = loop .inv .1 in
+    omega (arith, f .to-in, f .scales-in, lt, long, loop .inv .3)
 
 mul-apply : tie.Need-mul-apply Inv-loop μ-loop
-mul-apply c = let f = c .before .before .before .loop .inv .2 in
+mul-apply c =
+    let loop = c .before .before .before .loop in
+    let f = loop .inv .2 in
     let lt = c .before .before .loop-test .taken in
-    let long = c .before .before .before .loop .inv .1 in
-    omega (arith, f .to-in, f .scales-in, lt, long, c .before .before .before .loop .inv .3)
+    let long = loop .inv .1 in
+    omega (arith, f .to-in, f .scales-in, lt, long, loop .inv .3)
 
 slice-read-apply : tie.Need-slice-read-apply Inv-loop μ-loop
-slice-read-apply c = let f = c .before .before .before .before .loop .inv .2 in
-    let lt = c .before .before .before .loop-test .taken in
-    let long = c .before .before .before .before .loop .inv .1 in
-    omega (arith, f .to-in, f .scales-in, lt, long, c .before .before .before .before .loop .inv .3)
+slice-read-apply c =
+    let loop = c .before .before .before .before .loop in
+    let loop-test = c .before .before .before .loop-test in
+    let f = loop .inv .2 in
+    let lt = loop-test .taken in
+    let long = loop .inv .1 in
+    omega (arith, f .to-in, f .scales-in, lt, long, loop .inv .3)
 
 apply-requires : tie.Need-apply-requires Inv-loop μ-loop
 apply-requires c κs = search needs
 
 add-work : tie.Need-add-work Inv-loop μ-loop
-add-work c = let f = c .before .before .before .before .before .loop .inv .2 in
-    let lt = c .before .before .before .before .loop-test .taken in
-    let long = c .before .before .before .before .before .loop .inv .1 in
-    omega (arith, f .to-in, f .scales-in, lt, long, c .before .before .before .before .before .loop .inv .3)
+add-work c =
+    let loop = c .before .before .before .before .before .loop in
+    let loop-test = c .before .before .before .before .loop-test in
+    let f = loop .inv .2 in
+    let lt = loop-test .taken in
+    let long = loop .inv .1 in
+    omega (arith, f .to-in, f .scales-in, lt, long, loop .inv .3)
 
 mul-work : tie.Need-mul-work Inv-loop μ-loop
-mul-work c = let f = c .before .before .before .before .before .loop .inv .2 in
-    let lt = c .before .before .before .before .loop-test .taken in
-    let long = c .before .before .before .before .before .loop .inv .1 in
-    omega (arith, f .to-in, f .scales-in, lt, long, c .before .before .before .before .before .loop .inv .3)
+mul-work c =
+    let loop = c .before .before .before .before .before .loop in
+    let loop-test = c .before .before .before .before .loop-test in
+    let f = loop .inv .2 in
+    let lt = loop-test .taken in
+    let long = loop .inv .1 in
+    omega (arith, f .to-in, f .scales-in, lt, long, loop .inv .3)
 
 slice-write-work : tie.Need-slice-write-work Inv-loop μ-loop
-slice-write-work c = let f = c .before .before .before .before .before .loop .inv .2 in
-    let lt = c .before .before .before .before .loop-test .taken in
-    let long = c .before .before .before .before .before .loop .inv .1 in
-    omega (arith, f .to-in, f .scales-in, lt, long, c .before .before .before .before .before .loop .inv .3)
+slice-write-work c =
+    let loop = c .before .before .before .before .before .loop in
+    let loop-test = c .before .before .before .before .loop-test in
+    let f = loop .inv .2 in
+    let lt = loop-test .taken in
+    let long = loop .inv .1 in
+    omega (arith, f .to-in, f .scales-in, lt, long, loop .inv .3)
 
 add-i : tie.Need-add-i Inv-loop μ-loop
 add-i c = search needs
@@ -81,21 +104,29 @@ loop-less : tie.Need-loop-less Inv-loop μ-loop
 loop-less c = search needs
 
 loop-again : tie.Need-loop-again Inv-loop μ-loop
-loop-again c = let f = c .before .before .before .before .before .loop .inv .2 in
-    let lt = c .before .before .before .before .loop-test .taken in
-    let long = c .before .before .before .before .before .loop .inv .1 in
-    (
+loop-again c =
+    let args = c .before .before .before .before .before .before .before .args in
+    let loop = c .before .before .before .before .before .loop in
+    let loop-test = c .before .before .before .before .loop-test in
+    let f = loop .inv .2 in
+    let lt = loop-test .taken in
+    let long = loop .inv .1 in (
       search needs,
       search needs,
-      f, c .before .before .before .before .before .loop .inv .3, c .before .before .before .before .before .loop .inv .4,
-      fill-turn _ _ _ _ _ _ (c .before .before .before .before .before .loop .inv .5) (film-turn (c .before .before .before .before .before .before .before .args .from) (c .before .before .before .before .before .loop .i) (c .before .before .before .before .before .before .before .args .work .now) (c .before .before .before .before .before .loop .work) _ _ f lt (c .before .before .before .before .before .loop .inv .5) (omega (arith, c .before .before .before .before .before .loop .inv .4, lt)) (c .before .before .read .ensures) (c .apply .ensures)),
+      f,
+      loop .inv .3,
+      loop .inv .4,
+      fill-turn _ _ _ _ _ _ (loop .inv .5) (film-turn (args .from) (loop .i) (args .work .now) (loop .work) _ _ f lt (loop .inv .5) (omega (arith, loop .inv .4, lt)) (c .before .before .read .ensures) (c .apply .ensures)),
     )
 
 same-length : tie.Need-same-length Inv-loop μ-loop
 same-length c = search needs
 
 returns : tie.Need-returns Inv-loop μ-loop
-returns c = let e : c .before .loop .i ≡ c .before .before .before .args .n = omega arith in rw e at (c .before .loop .inv .5)
+returns c =
+    let args = c .before .before .before .args in
+    let loop = c .before .loop in
+    let e : loop .i ≡ args .n = omega arith in rw e at (loop .inv .5)
 
 pub process-spec : {M : Type 1} → statement M
 process-spec =

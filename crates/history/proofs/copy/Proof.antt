@@ -1,3 +1,4 @@
+-- `history::copy` meets its contract. What is read lies apart from what was written. Assumes nothing.
 use mathlib.Core.Path.{_≡_, sym}
 use Prim.Native.Nat.{_+_, _-_, _≤_}
 use native.Mathlib.Omega.{arith}
@@ -46,14 +47,24 @@ loop-less : tie.Need-loop-less Inv-loop μ-loop
 loop-less c = search needs
 
 loop-again : tie.Need-loop-again Inv-loop μ-loop
-loop-again c = (search needs, search needs, search needs, search needs, search needs,
-    fill-turn _ _ _ _ _ _ (c .before .before .loop .inv .5) (fill-apart nan _ _ (c .before .before .before .args .from + c .before .before .loop .t) _ _ _ (c .before .before .loop .inv .5) (omega arith)))
+loop-again c =
+    let args = c .before .before .before .args in
+    let loop = c .before .before .loop in (
+      search needs,
+      search needs,
+      search needs,
+      search needs,
+      search needs,
+      fill-turn _ _ _ _ _ _ (loop .inv .5) (fill-apart nan _ _ (args .from + loop .t) _ _ _ (loop .inv .5) (omega arith)),
+    )
 
 same-length : tie.Need-same-length Inv-loop μ-loop
 same-length c = search needs
 
 returns : tie.Need-returns Inv-loop μ-loop
-returns c = let e : c .before .loop .t ≡ c .before .before .args .n = omega arith in rw e at (c .before .loop .inv .5)
+returns c =
+    let loop = c .before .loop in
+    let e : loop .t ≡ c .before .before .args .n = omega arith in rw e at (loop .inv .5)
 
 pub copy-spec : {M : Type 1} → statement M
 copy-spec =

@@ -1,3 +1,4 @@
+-- `history::copy_rows` meets its contract. One row more, by `copy-turn`. Assumes nothing.
 use mathlib.Core.Path.{_≡_}
 use Prim.Native.Nat.{_+_, _*_, _-_, _≤_}
 use native.Mathlib.Omega.{arith}
@@ -22,22 +23,35 @@ loop-holds : tie.Need-loop-holds Inv-loop μ-loop
 loop-holds c = (search needs, search needs, c .before .pre, rows-none _ _ _ _ _)
 
 mul-copy : tie.Need-mul-copy Inv-loop μ-loop
-mul-copy c = omega (arith, c .before .before .loop .inv .2 .to-in (c .before .before .loop .c) (c .before .loop-test .taken), c .before .before .loop .inv .2 .from-in (c .before .before .loop .c) (c .before .loop-test .taken))
+mul-copy c =
+    let loop = c .before .before .loop in
+    let loop-test = c .before .loop-test in
+    omega (arith, loop .inv .2 .to-in (loop .c) (loop-test .taken), loop .inv .2 .from-in (loop .c) (loop-test .taken))
 
 add-copy : tie.Need-add-copy Inv-loop μ-loop
-add-copy c = omega (arith, c .before .before .loop .inv .2 .to-in (c .before .before .loop .c) (c .before .loop-test .taken), c .before .before .loop .inv .2 .from-in (c .before .before .loop .c) (c .before .loop-test .taken))
+add-copy c =
+    let loop = c .before .before .loop in
+    let loop-test = c .before .loop-test in
+    omega (arith, loop .inv .2 .to-in (loop .c) (loop-test .taken), loop .inv .2 .from-in (loop .c) (loop-test .taken))
 
 mul-copy-2 : tie.Need-mul-copy-2 Inv-loop μ-loop
-mul-copy-2 c = omega (arith, c .before .before .loop .inv .2 .to-in (c .before .before .loop .c) (c .before .loop-test .taken), c .before .before .loop .inv .2 .from-in (c .before .before .loop .c) (c .before .loop-test .taken))
+mul-copy-2 c =
+    let loop = c .before .before .loop in
+    let loop-test = c .before .loop-test in
+    omega (arith, loop .inv .2 .to-in (loop .c) (loop-test .taken), loop .inv .2 .from-in (loop .c) (loop-test .taken))
 
 add-copy-2 : tie.Need-add-copy-2 Inv-loop μ-loop
-add-copy-2 c = omega (arith, c .before .before .loop .inv .2 .to-in (c .before .before .loop .c) (c .before .loop-test .taken), c .before .before .loop .inv .2 .from-in (c .before .before .loop .c) (c .before .loop-test .taken))
+add-copy-2 c =
+    let loop = c .before .before .loop in
+    let loop-test = c .before .loop-test in
+    omega (arith, loop .inv .2 .to-in (loop .c) (loop-test .taken), loop .inv .2 .from-in (loop .c) (loop-test .taken))
 
 copy-requires : tie.Need-copy-requires Inv-loop μ-loop
-copy-requires c κs = 
-    let f = c .before .before .loop .inv .2 in
+copy-requires c κs =
+    let loop = c .before .before .loop in
+    let f = loop .inv .2 in
     let lt = c .before .loop-test .taken in
-    (omega (arith, f .to-in _ lt, c .before .before .loop .inv .1), omega (arith, f .from-in _ lt, c .before .before .loop .inv .1), f .apart _ _ lt lt)
+    (omega (arith, f .to-in _ lt, loop .inv .1), omega (arith, f .from-in _ lt, loop .inv .1), f .apart _ _ lt lt)
 
 add-c : tie.Need-add-c Inv-loop μ-loop
 add-c c = search needs
@@ -46,18 +60,25 @@ loop-less : tie.Need-loop-less Inv-loop μ-loop
 loop-less c = search needs
 
 loop-again : tie.Need-loop-again Inv-loop μ-loop
-loop-again c = (
+loop-again c =
+    let args = c .before .before .before .before .before .before .before .args in
+    let loop = c .before .before .before .before .before .loop in
+    let loop-test = c .before .before .before .before .loop-test in
+    let copy = c .before .before .copy in (
       search needs,
-      omega (arith, c .before .before .copy .kept .0, c .before .before .before .before .before .loop .inv .1),
-      c .before .before .before .before .before .loop .inv .2,
-      copy-turn _ _ _ _ _ _ _ (c .before .before .before .before .before .before .before .args .work .now) (c .before .before .before .before .before .loop .work) _ (c .before .before .before .before .before .loop .inv .2) (c .before .before .before .before .loop-test .taken) (c .before .before .before .before .before .loop .inv .3) (c .before .before .copy .ensures),
+      omega (arith, copy .kept .0, loop .inv .1),
+      loop .inv .2,
+      copy-turn _ _ _ _ _ _ _ (args .work .now) (loop .work) _ (loop .inv .2) (loop-test .taken) (loop .inv .3) (copy .ensures),
     )
 
 same-length : tie.Need-same-length Inv-loop μ-loop
 same-length c = search needs
 
 returns : tie.Need-returns Inv-loop μ-loop
-returns c = let e : c .before .loop .c ≡ c .before .before .before .args .w = omega arith in rw e at (c .before .loop .inv .3)
+returns c =
+    let args = c .before .before .before .args in
+    let loop = c .before .loop in
+    let e : loop .c ≡ args .w = omega arith in rw e at (loop .inv .3)
 
 pub copy-rows-spec : {M : Type 1} → statement M
 copy-rows-spec =

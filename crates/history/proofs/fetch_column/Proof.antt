@@ -1,3 +1,4 @@
+-- `history::fetch_column` meets its contract. One store more is one row of one place more. Assumes nothing.
 use mathlib.Core.Path.{_≡_, refl}
 use Prim.Native.Nat.{_+_, _-_, _≤_}
 use native.Mathlib.Omega.{arith}
@@ -19,25 +20,46 @@ loop-holds : tie.Need-loop-holds Inv-loop μ-loop
 loop-holds c = (search needs, search needs, rows-none _ _ _ _ _)
 
 add-work : tie.Need-add-work Inv-loop μ-loop
-add-work c = omega (arith, c .before .before .pre .0, c .before .before .pre .1 (c .before .loop .j) (c .loop-test .taken), c .before .loop .inv .1)
+add-work c =
+    let pre = c .before .before .pre in
+    let loop = c .before .loop in
+    omega (arith, pre .0, pre .1 (loop .j) (c .loop-test .taken), loop .inv .1)
 
 mul-work : tie.Need-mul-work Inv-loop μ-loop
-mul-work c = omega (arith, c .before .before .pre .0, c .before .before .pre .1 (c .before .loop .j) (c .loop-test .taken), c .before .loop .inv .1)
+mul-work c =
+    let pre = c .before .before .pre in
+    let loop = c .before .loop in
+    omega (arith, pre .0, pre .1 (loop .j) (c .loop-test .taken), loop .inv .1)
 
 shared-slice-read-work : tie.Need-shared-slice-read-work Inv-loop μ-loop
-shared-slice-read-work c = omega (arith, c .before .before .before .pre .0, c .before .before .before .pre .1 (c .before .before .loop .j) (c .before .loop-test .taken), c .before .before .loop .inv .1)
+shared-slice-read-work c =
+    let pre = c .before .before .before .pre in
+    let loop = c .before .before .loop in
+    omega (arith, pre .0, pre .1 (loop .j) (c .before .loop-test .taken), loop .inv .1)
 
 mul-work-2 : tie.Need-mul-work-2 Inv-loop μ-loop
-mul-work-2 c = omega (arith, c .before .before .before .pre .0, c .before .before .before .pre .1 (c .before .before .loop .j) (c .before .loop-test .taken), c .before .before .loop .inv .1)
+mul-work-2 c =
+    let pre = c .before .before .before .pre in
+    let loop = c .before .before .loop in
+    omega (arith, pre .0, pre .1 (loop .j) (c .before .loop-test .taken), loop .inv .1)
 
 add-work-2 : tie.Need-add-work-2 Inv-loop μ-loop
-add-work-2 c = omega (arith, c .before .before .before .pre .0, c .before .before .before .pre .1 (c .before .before .loop .j) (c .before .loop-test .taken), c .before .before .loop .inv .1)
+add-work-2 c =
+    let pre = c .before .before .before .pre in
+    let loop = c .before .before .loop in
+    omega (arith, pre .0, pre .1 (loop .j) (c .before .loop-test .taken), loop .inv .1)
 
 mul-work-3 : tie.Need-mul-work-3 Inv-loop μ-loop
-mul-work-3 c = omega (arith, c .before .before .before .pre .0, c .before .before .before .pre .1 (c .before .before .loop .j) (c .before .loop-test .taken), c .before .before .loop .inv .1)
+mul-work-3 c =
+    let pre = c .before .before .before .pre in
+    let loop = c .before .before .loop in
+    omega (arith, pre .0, pre .1 (loop .j) (c .before .loop-test .taken), loop .inv .1)
 
 slice-write-work : tie.Need-slice-write-work Inv-loop μ-loop
-slice-write-work c = omega (arith, c .before .before .before .pre .0, c .before .before .before .pre .1 (c .before .before .loop .j) (c .before .loop-test .taken), c .before .before .loop .inv .1)
+slice-write-work c =
+    let pre = c .before .before .before .pre in
+    let loop = c .before .before .loop in
+    omega (arith, pre .0, pre .1 (loop .j) (c .before .loop-test .taken), loop .inv .1)
 
 add-j : tie.Need-add-j Inv-loop μ-loop
 add-j c = search needs
@@ -52,7 +74,9 @@ same-length : tie.Need-same-length Inv-loop μ-loop
 same-length c = search needs
 
 returns : tie.Need-returns Inv-loop μ-loop
-returns c = let e : c .before .loop .j ≡ c .before .before .args .ins = omega arith in rw e at (c .before .loop .inv .2)
+returns c =
+    let loop = c .before .loop in
+    let e : loop .j ≡ c .before .before .args .ins = omega arith in rw e at (loop .inv .2)
 
 pub fetch-column-spec : {M : Type 1} → statement M
 fetch-column-spec =

@@ -1,3 +1,4 @@
+-- `history::store` meets its contract. After t columns the memory is the one after t pushes, by `store-turn`. Assumes nothing.
 use mathlib.Core.Path.{_≡_, sym, _∙_, ap}
 use Prim.Native.Nat.{ℕ, _+_, _*_, _-_, _≤_, _<_}
 use native.Mathlib.Omega.{arith}
@@ -25,28 +26,40 @@ loop-holds : tie.Need-loop-holds Inv-loop μ-loop
 loop-holds c = (search needs, search needs, search needs, c .before .before .pre .place-in, sym (after-none _ _ _ _))
 
 next-requires : tie.Need-next-requires Inv-loop μ-loop
-next-requires c κs = rw (c .before .loop .inv .2) (c .before .loop .inv .3)
+next-requires c κs =
+    let loop = c .before .loop in
+    rw (loop .inv .2) (loop .inv .3)
 
 mul-store-column : tie.Need-mul-store-column Inv-loop μ-loop
-mul-store-column c = 
-    let l = c .before .before .before .loop in
-    let len = c .before .before .before .before .before .before .args .ring .len in
-    let to : c .before .next .result .at ≡ nextPlace len (l .place .at) = rw (ap (λ (r : Ring). r .at) (c .before .next .ensures), l .inv .2) in
-    let lt : c .before .next .result .at < len = rw to (next-lt len (l .place .at) (l .inv .3)) in
-    let end = column-end (c .before .before .before .before .before .before .args .ins) len (c .before .next .result .at) _ lt (c .before .before .before .before .before .before .pre .history-is) in
+mul-store-column c =
+    let args = c .before .before .before .before .before .before .args in
+    let pre = c .before .before .before .before .before .before .pre in
+    let loop = c .before .before .before .loop in
+    let next = c .before .next in
+    let l = loop in
+    let len = args .ring .len in
+    let to : next .result .at ≡ nextPlace len (l .place .at) = rw (ap (λ (r : Ring). r .at) (next .ensures), l .inv .2) in
+    let lt : next .result .at < len = rw to (next-lt len (l .place .at) (l .inv .3)) in
+    let end = column-end (args .ins) len (next .result .at) _ lt (pre .history-is) in
     omega (arith, end)
 
 add-store-column : tie.Need-add-store-column Inv-loop μ-loop
-add-store-column c = omega (arith, c .before .before .before .before .before .before .pre .block-in 0 (c .before .before .before .before .before .before .pre .some), c .before .before .loop-test .taken)
+add-store-column c =
+    let pre = c .before .before .before .before .before .before .pre in
+    omega (arith, pre .block-in 0 (pre .some), c .before .before .loop-test .taken)
 
 store-column-requires : tie.Need-store-column-requires Inv-loop μ-loop
-store-column-requires c κs = 
-    let l = c .before .before .before .loop in
-    let len = c .before .before .before .before .before .before .args .ring .len in
-    let to : c .before .next .result .at ≡ nextPlace len (l .place .at) = rw (ap (λ (r : Ring). r .at) (c .before .next .ensures), l .inv .2) in
-    let lt : c .before .next .result .at < len = rw to (next-lt len (l .place .at) (l .inv .3)) in
-    let end = column-end (c .before .before .before .before .before .before .args .ins) len (c .before .next .result .at) _ lt (c .before .before .before .before .before .before .pre .history-is) in
-    (omega (arith, end, l .inv .1), λ j hj. omega (arith, c .before .before .before .before .before .before .pre .block-in j hj, c .before .before .loop-test .taken))
+store-column-requires c κs =
+    let args = c .before .before .before .before .before .before .args in
+    let pre = c .before .before .before .before .before .before .pre in
+    let loop = c .before .before .before .loop in
+    let next = c .before .next in
+    let l = loop in
+    let len = args .ring .len in
+    let to : next .result .at ≡ nextPlace len (l .place .at) = rw (ap (λ (r : Ring). r .at) (next .ensures), l .inv .2) in
+    let lt : next .result .at < len = rw to (next-lt len (l .place .at) (l .inv .3)) in
+    let end = column-end (args .ins) len (next .result .at) _ lt (pre .history-is) in
+    (omega (arith, end, l .inv .1), λ j hj. omega (arith, pre .block-in j hj, c .before .before .loop-test .taken))
 
 add-t : tie.Need-add-t Inv-loop μ-loop
 add-t c = search needs
@@ -55,26 +68,33 @@ loop-less : tie.Need-loop-less Inv-loop μ-loop
 loop-less c = search needs
 
 loop-again : tie.Need-loop-again Inv-loop μ-loop
-loop-again c = 
-    let l = c .before .before .before .before .before .before .loop in
-    let len = c .before .before .before .before .before .before .before .before .before .args .ring .len in
-    let to : c .before .before .before .before .next .result .at ≡ nextPlace len (l .place .at) = rw (ap (λ (r : Ring). r .at) (c .before .before .before .before .next .ensures), l .inv .2) in
-    let lt : c .before .before .before .before .next .result .at < len = rw to (next-lt len (l .place .at) (l .inv .3)) in
-    let end = column-end (c .before .before .before .before .before .before .before .before .before .args .ins) len (c .before .before .before .before .next .result .at) _ lt (c .before .before .before .before .before .before .before .before .before .pre .history-is) in
-    
-    let same : (j : ℕ) → c .before .before .before .before .before .before .before .before .before .args .x + l .t + j * c .before .before .before .before .before .before .before .before .before .args .stride ≡ c .before .before .before .before .before .before .before .before .before .args .x + j * c .before .before .before .before .before .before .before .before .before .args .stride + l .t = λ j. omega arith in (
+loop-again c =
+    let args = c .before .before .before .before .before .before .before .before .before .args in
+    let pre = c .before .before .before .before .before .before .before .before .before .pre in
+    let loop = c .before .before .before .before .before .before .loop in
+    let next = c .before .before .before .before .next in
+    let store-column = c .before .before .store-column in
+    let l = loop in
+    let len = args .ring .len in
+    let to : next .result .at ≡ nextPlace len (l .place .at) = rw (ap (λ (r : Ring). r .at) (next .ensures), l .inv .2) in
+    let lt : next .result .at < len = rw to (next-lt len (l .place .at) (l .inv .3)) in
+    let end = column-end (args .ins) len (next .result .at) _ lt (pre .history-is) in
+    let same : (j : ℕ) → args .x + l .t + j * args .stride ≡ args .x + j * args .stride + l .t = λ j. omega arith in (
       search needs,
-      omega (arith, c .before .before .store-column .kept .0, l .inv .1),
-      ap (λ (r : Ring). r .len) (c .before .before .before .before .next .ensures) ∙ l .inv .2,
+      omega (arith, store-column .kept .0, l .inv .1),
+      ap (λ (r : Ring). r .len) (next .ensures) ∙ l .inv .2,
       lt,
-      store-turn _ len (l .t) _ _ (l .history) _ (l .place .at) _ _ (l .inv .4) to (c .before .before .store-column .ensures) (λ j hj. ap (at (c .before .before .before .before .before .before .before .before .before .args .work .now)) (same j)),
+      store-turn _ len (l .t) _ _ (l .history) _ (l .place .at) _ _ (l .inv .4) to (store-column .ensures) (λ j hj. ap (at (args .work .now)) (same j)),
     )
 
 same-length : tie.Need-same-length Inv-loop μ-loop
 same-length c = search needs
 
 returns : tie.Need-returns Inv-loop μ-loop
-returns c = let e : c .before .loop .t ≡ c .before .before .before .before .args .n = omega arith in (rw e at (c .before .loop .inv .4), c .before .loop .inv .2)
+returns c =
+    let args = c .before .before .before .before .args in
+    let loop = c .before .loop in
+    let e : loop .t ≡ args .n = omega arith in (rw e at (loop .inv .4), loop .inv .2)
 
 pub store-spec : {M : Type 1} → statement M
 store-spec =

@@ -1,3 +1,4 @@
+-- `history::store_column` meets its contract. One store more fills one place more. Assumes nothing.
 use mathlib.Core.Path.{_≡_, refl, sym}
 use Prim.Native.Nat.{_+_, _*_, _-_, _≤_}
 use native.Mathlib.Omega.{arith}
@@ -19,25 +20,39 @@ loop-holds : tie.Need-loop-holds Inv-loop μ-loop
 loop-holds c = (search needs, search needs, sym (fill-none _ _ _))
 
 mul-history : tie.Need-mul-history Inv-loop μ-loop
-mul-history c = omega (arith, c .before .before .pre .0, c .before .before .pre .1 (c .before .loop .j) (c .loop-test .taken))
+mul-history c =
+    let pre = c .before .before .pre in
+    omega (arith, pre .0, pre .1 (c .before .loop .j) (c .loop-test .taken))
 
 add-history : tie.Need-add-history Inv-loop μ-loop
-add-history c = omega (arith, c .before .before .pre .0, c .before .before .pre .1 (c .before .loop .j) (c .loop-test .taken))
+add-history c =
+    let pre = c .before .before .pre in
+    omega (arith, pre .0, pre .1 (c .before .loop .j) (c .loop-test .taken))
 
 mul-history-2 : tie.Need-mul-history-2 Inv-loop μ-loop
-mul-history-2 c = omega (arith, c .before .before .pre .0, c .before .before .pre .1 (c .before .loop .j) (c .loop-test .taken))
+mul-history-2 c =
+    let pre = c .before .before .pre in
+    omega (arith, pre .0, pre .1 (c .before .loop .j) (c .loop-test .taken))
 
 shared-slice-read-history : tie.Need-shared-slice-read-history Inv-loop μ-loop
-shared-slice-read-history c = omega (arith, c .before .before .before .pre .0, c .before .before .before .pre .1 (c .before .before .loop .j) (c .before .loop-test .taken))
+shared-slice-read-history c =
+    let pre = c .before .before .before .pre in
+    omega (arith, pre .0, pre .1 (c .before .before .loop .j) (c .before .loop-test .taken))
 
 add-history-2 : tie.Need-add-history-2 Inv-loop μ-loop
-add-history-2 c = omega (arith, c .before .before .before .pre .0, c .before .before .before .pre .1 (c .before .before .loop .j) (c .before .loop-test .taken))
+add-history-2 c =
+    let pre = c .before .before .before .pre in
+    omega (arith, pre .0, pre .1 (c .before .before .loop .j) (c .before .loop-test .taken))
 
 mul-history-3 : tie.Need-mul-history-3 Inv-loop μ-loop
-mul-history-3 c = omega (arith, c .before .before .before .pre .0, c .before .before .before .pre .1 (c .before .before .loop .j) (c .before .loop-test .taken))
+mul-history-3 c =
+    let pre = c .before .before .before .pre in
+    omega (arith, pre .0, pre .1 (c .before .before .loop .j) (c .before .loop-test .taken))
 
 slice-write-history : tie.Need-slice-write-history Inv-loop μ-loop
-slice-write-history c = omega (arith, c .before .before .before .pre .0, c .before .before .before .pre .1 (c .before .before .loop .j) (c .before .loop-test .taken))
+slice-write-history c =
+    let pre = c .before .before .before .pre in
+    omega (arith, pre .0, pre .1 (c .before .before .loop .j) (c .before .loop-test .taken))
 
 add-j : tie.Need-add-j Inv-loop μ-loop
 add-j c = search needs
@@ -52,7 +67,9 @@ same-length : tie.Need-same-length Inv-loop μ-loop
 same-length c = search needs
 
 returns : tie.Need-returns Inv-loop μ-loop
-returns c = let e : c .before .loop .j ≡ c .before .before .args .ins = omega arith in rw e at (c .before .loop .inv .2)
+returns c =
+    let loop = c .before .loop in
+    let e : loop .j ≡ c .before .before .args .ins = omega arith in rw e at (loop .inv .2)
 
 pub store-column-spec : {M : Type 1} → statement M
 store-column-spec =

@@ -1,3 +1,4 @@
+-- `sums::add_inputs` meets its contract. After j inputs each lane has the sum of j products, by `lanes-more`. Assumes nothing.
 use mathlib.Core.Path.{_≡_, _∙_, ap}
 use Prim.Native.Nat.{_+_, _*_, _-_, _≤_}
 use native.Mathlib.Omega.{arith}
@@ -24,25 +25,40 @@ loop-holds : tie.Need-loop-holds Inv-loop μ-loop
 loop-holds c = (search needs, search needs, c .before .before .pre, lanes-none 16 _ _ (search needs))
 
 mul-add-input : tie.Need-mul-add-input Inv-loop μ-loop
-mul-add-input c = omega (arith, c .before .loop .inv .2 .inputs-in (c .before .loop .j) (c .loop-test .taken), c .before .loop .inv .2 .weights-in (c .before .loop .j) (c .loop-test .taken))
+mul-add-input c =
+    let loop = c .before .loop in
+    omega (arith, loop .inv .2 .inputs-in (loop .j) (c .loop-test .taken), loop .inv .2 .weights-in (loop .j) (c .loop-test .taken))
 
 add-add-input : tie.Need-add-add-input Inv-loop μ-loop
-add-add-input c = omega (arith, c .before .loop .inv .2 .inputs-in (c .before .loop .j) (c .loop-test .taken), c .before .loop .inv .2 .weights-in (c .before .loop .j) (c .loop-test .taken))
+add-add-input c =
+    let loop = c .before .loop in
+    omega (arith, loop .inv .2 .inputs-in (loop .j) (c .loop-test .taken), loop .inv .2 .weights-in (loop .j) (c .loop-test .taken))
 
 mul-add-input-2 : tie.Need-mul-add-input-2 Inv-loop μ-loop
-mul-add-input-2 c = omega (arith, c .before .loop .inv .2 .inputs-in (c .before .loop .j) (c .loop-test .taken), c .before .loop .inv .2 .weights-in (c .before .loop .j) (c .loop-test .taken))
+mul-add-input-2 c =
+    let loop = c .before .loop in
+    omega (arith, loop .inv .2 .inputs-in (loop .j) (c .loop-test .taken), loop .inv .2 .weights-in (loop .j) (c .loop-test .taken))
 
 add-add-input-2 : tie.Need-add-add-input-2 Inv-loop μ-loop
-add-add-input-2 c = omega (arith, c .before .loop .inv .2 .inputs-in (c .before .loop .j) (c .loop-test .taken), c .before .loop .inv .2 .weights-in (c .before .loop .j) (c .loop-test .taken))
+add-add-input-2 c =
+    let loop = c .before .loop in
+    omega (arith, loop .inv .2 .inputs-in (loop .j) (c .loop-test .taken), loop .inv .2 .weights-in (loop .j) (c .loop-test .taken))
 
 mul-add-input-3 : tie.Need-mul-add-input-3 Inv-loop μ-loop
-mul-add-input-3 c = omega (arith, c .before .loop .inv .2 .inputs-in (c .before .loop .j) (c .loop-test .taken), c .before .loop .inv .2 .weights-in (c .before .loop .j) (c .loop-test .taken))
+mul-add-input-3 c =
+    let loop = c .before .loop in
+    omega (arith, loop .inv .2 .inputs-in (loop .j) (c .loop-test .taken), loop .inv .2 .weights-in (loop .j) (c .loop-test .taken))
 
 shared-slice-read-add-input : tie.Need-shared-slice-read-add-input Inv-loop μ-loop
-shared-slice-read-add-input c = omega (arith, c .before .before .loop .inv .2 .inputs-in (c .before .before .loop .j) (c .before .loop-test .taken), c .before .before .loop .inv .2 .weights-in (c .before .before .loop .j) (c .before .loop-test .taken))
+shared-slice-read-add-input c =
+    let loop = c .before .before .loop in
+    let loop-test = c .before .loop-test in
+    omega (arith, loop .inv .2 .inputs-in (loop .j) (loop-test .taken), loop .inv .2 .weights-in (loop .j) (loop-test .taken))
 
 add-input-requires : tie.Need-add-input-requires Inv-loop μ-loop
-add-input-requires c κs = c .before .before .loop .inv .2 .inputs-in (c .before .before .loop .j) (c .before .loop-test .taken)
+add-input-requires c κs =
+    let loop = c .before .before .loop in
+    loop .inv .2 .inputs-in (loop .j) (c .before .loop-test .taken)
 
 add-j : tie.Need-add-j Inv-loop μ-loop
 add-j c = search needs
@@ -52,15 +68,19 @@ loop-less c = search needs
 
 loop-again : tie.Need-loop-again Inv-loop μ-loop
 unfolding product
-loop-again c = (
+loop-again c =
+    let loop = c .before .before .before .loop in (
       search needs,
       ap length (c .add-input .ensures) ∙ length-tab 16 _,
-      c .before .before .before .loop .inv .2,
-      lanes-more 16 (c .before .before .before .loop .j) _ _ (c .before .before .before .loop .r) _ (c .before .before .before .loop .inv .3) (c .add-input .ensures),
+      loop .inv .2,
+      lanes-more 16 (loop .j) _ _ (loop .r) _ (loop .inv .3) (c .add-input .ensures),
     )
 
 returns : tie.Need-returns Inv-loop μ-loop
-returns c = let e : c .before .loop .j ≡ c .before .before .before .before .args .many = omega arith in rw e at (c .before .loop .inv .3)
+returns c =
+    let args = c .before .before .before .before .args in
+    let loop = c .before .loop in
+    let e : loop .j ≡ args .many = omega arith in rw e at (loop .inv .3)
 
 pub add-inputs-spec : {M : Type 1} → statement M
 add-inputs-spec =

@@ -1,3 +1,4 @@
+-- `sums::add_output` meets its contract. After j inputs the sum has j products. Assumes nothing.
 use mathlib.Core.Path.{_≡_, sym}
 use Prim.Native.Nat.{_+_, _-_, _≤_}
 use native.Mathlib.Omega.{arith}
@@ -29,16 +30,25 @@ mul-r-2 : tie.Need-mul-r-2 Inv-loop μ-loop
 mul-r-2 c = omega (arith, c .before .before .pre .weights-in 0 (c .before .loop .j) (omega arith) (c .loop-test .taken))
 
 shared-slice-read-r : tie.Need-shared-slice-read-r Inv-loop μ-loop
-shared-slice-read-r c = omega (arith, c .before .before .before .pre .weights-in 0 (c .before .before .loop .j) (omega arith) (c .before .loop-test .taken))
+shared-slice-read-r c =
+    let pre = c .before .before .before .pre in
+    omega (arith, pre .weights-in 0 (c .before .before .loop .j) (omega arith) (c .before .loop-test .taken))
 
 add-r-2 : tie.Need-add-r-2 Inv-loop μ-loop
-add-r-2 c = omega (arith, c .before .before .before .pre .weights-in 0 (c .before .before .loop .j) (omega arith) (c .before .loop-test .taken))
+add-r-2 c =
+    let pre = c .before .before .before .pre in
+    omega (arith, pre .weights-in 0 (c .before .before .loop .j) (omega arith) (c .before .loop-test .taken))
 
 mul-r-3 : tie.Need-mul-r-3 Inv-loop μ-loop
-mul-r-3 c = omega (arith, c .before .before .before .pre .weights-in 0 (c .before .before .loop .j) (omega arith) (c .before .loop-test .taken))
+mul-r-3 c =
+    let pre = c .before .before .before .pre in
+    omega (arith, pre .weights-in 0 (c .before .before .loop .j) (omega arith) (c .before .loop-test .taken))
 
 shared-slice-read-r-2 : tie.Need-shared-slice-read-r-2 Inv-loop μ-loop
-shared-slice-read-r-2 c = omega (arith, c .before .before .before .before .pre .weights-in 0 (c .before .before .before .loop .j) (omega arith) (c .before .before .loop-test .taken))
+shared-slice-read-r-2 c =
+    let pre = c .before .before .before .before .pre in
+    let loop = c .before .before .before .loop in
+    omega (arith, pre .weights-in 0 (loop .j) (omega arith) (c .before .before .loop-test .taken))
 
 add-j : tie.Need-add-j Inv-loop μ-loop
 add-j c = search needs
@@ -48,10 +58,14 @@ loop-less c = search needs
 
 loop-again : tie.Need-loop-again Inv-loop μ-loop
 unfolding product
-loop-again c = (search needs, rw (c .before .before .before .loop .inv .1) (sum-more _ (c .before .before .before .loop .j) _))
+loop-again c =
+    let loop = c .before .before .before .loop in
+    (search needs, rw (loop .inv .1) (sum-more _ (loop .j) _))
 
 returns : tie.Need-returns Inv-loop μ-loop
-returns c = let e : c .before .loop .j ≡ c .before .before .args .many = omega arith in rw e at (c .before .loop .inv .1)
+returns c =
+    let loop = c .before .loop in
+    let e : loop .j ≡ c .before .before .args .many = omega arith in rw e at (loop .inv .1)
 
 pub add-output-spec : {M : Type 1} → statement M
 add-output-spec =

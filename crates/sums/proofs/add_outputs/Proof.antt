@@ -1,3 +1,4 @@
+-- `sums::add_outputs` meets its contract. After j inputs each lane has the sum of j products, by `lanes-more`. Assumes nothing.
 use mathlib.Core.Path.{_≡_, _∙_, ap}
 use Prim.Native.Nat.{ℕ, _+_, _*_, _-_, _≤_}
 use native.Mathlib.Omega.{arith}
@@ -25,22 +26,34 @@ loop-holds : tie.Need-loop-holds Inv-loop μ-loop
 loop-holds c = (search needs, search needs, c .before .before .pre, lanes-none 8 _ _ (search needs))
 
 mul-add-weights : tie.Need-mul-add-weights Inv-loop μ-loop
-mul-add-weights c = omega (arith, c .before .loop .inv .2 .values-in, c .before .loop .inv .2 .weights-in 0 (c .before .loop .j) (omega arith) (c .loop-test .taken))
+mul-add-weights c =
+    let loop = c .before .loop in
+    omega (arith, loop .inv .2 .values-in, loop .inv .2 .weights-in 0 (loop .j) (omega arith) (c .loop-test .taken))
 
 add-add-weights : tie.Need-add-add-weights Inv-loop μ-loop
-add-add-weights c = omega (arith, c .before .loop .inv .2 .values-in, c .before .loop .inv .2 .weights-in 0 (c .before .loop .j) (omega arith) (c .loop-test .taken))
+add-add-weights c =
+    let loop = c .before .loop in
+    omega (arith, loop .inv .2 .values-in, loop .inv .2 .weights-in 0 (loop .j) (omega arith) (c .loop-test .taken))
 
 add-add-weights-2 : tie.Need-add-add-weights-2 Inv-loop μ-loop
-add-add-weights-2 c = omega (arith, c .before .loop .inv .2 .values-in, c .before .loop .inv .2 .weights-in 0 (c .before .loop .j) (omega arith) (c .loop-test .taken))
+add-add-weights-2 c =
+    let loop = c .before .loop in
+    omega (arith, loop .inv .2 .values-in, loop .inv .2 .weights-in 0 (loop .j) (omega arith) (c .loop-test .taken))
 
 mul-add-weights-2 : tie.Need-mul-add-weights-2 Inv-loop μ-loop
-mul-add-weights-2 c = omega (arith, c .before .loop .inv .2 .values-in, c .before .loop .inv .2 .weights-in 0 (c .before .loop .j) (omega arith) (c .loop-test .taken))
+mul-add-weights-2 c =
+    let loop = c .before .loop in
+    omega (arith, loop .inv .2 .values-in, loop .inv .2 .weights-in 0 (loop .j) (omega arith) (c .loop-test .taken))
 
 shared-slice-read-add-weights : tie.Need-shared-slice-read-add-weights Inv-loop μ-loop
-shared-slice-read-add-weights c = omega (arith, c .before .before .loop .inv .2 .values-in, c .before .before .loop .inv .2 .weights-in 0 (c .before .before .loop .j) (omega arith) (c .before .loop-test .taken))
+shared-slice-read-add-weights c =
+    let loop = c .before .before .loop in
+    omega (arith, loop .inv .2 .values-in, loop .inv .2 .weights-in 0 (loop .j) (omega arith) (c .before .loop-test .taken))
 
 add-weights-requires : tie.Need-add-weights-requires Inv-loop μ-loop
-add-weights-requires c κs = λ i lt. omega (arith, c .before .before .loop .inv .2 .weights-in i (c .before .before .loop .j) lt (c .before .loop-test .taken))
+add-weights-requires c κs =
+    let loop = c .before .before .loop in
+    λ i lt. omega (arith, loop .inv .2 .weights-in i (loop .j) lt (c .before .loop-test .taken))
 
 add-j : tie.Need-add-j Inv-loop μ-loop
 add-j c = search needs
@@ -50,16 +63,21 @@ loop-less c = search needs
 
 loop-again : tie.Need-loop-again Inv-loop μ-loop
 unfolding product
-loop-again c = 
-    let same : (i : ℕ) → c .before .before .before .before .before .before .args .w + c .before .before .before .loop .j * c .before .before .before .before .before .before .args .step + i * c .before .before .before .before .before .before .args .between ≡ c .before .before .before .before .before .before .args .w + i * c .before .before .before .before .before .before .args .between + c .before .before .before .loop .j * c .before .before .before .before .before .before .args .step = λ i. omega arith in (
+loop-again c =
+    let args = c .before .before .before .before .before .before .args in
+    let loop = c .before .before .before .loop in
+    let same : (i : ℕ) → args .w + loop .j * args .step + i * args .between ≡ args .w + i * args .between + loop .j * args .step = λ i. omega arith in (
       search needs,
       ap length (c .add-weights .ensures) ∙ length-tab 8 _,
-      c .before .before .before .loop .inv .2,
-      lanes-more 8 (c .before .before .before .loop .j) _ _ (c .before .before .before .loop .r) _ (c .before .before .before .loop .inv .3) (c .add-weights .ensures ∙ tab-ext nan 8 _ _ (λ i lt. rw (same i))),
+      loop .inv .2,
+      lanes-more 8 (loop .j) _ _ (loop .r) _ (loop .inv .3) (c .add-weights .ensures ∙ tab-ext nan 8 _ _ (λ i lt. rw (same i))),
     )
 
 returns : tie.Need-returns Inv-loop μ-loop
-returns c = let e : c .before .loop .j ≡ c .before .before .before .before .args .many = omega arith in rw e at (c .before .loop .inv .3)
+returns c =
+    let args = c .before .before .before .before .args in
+    let loop = c .before .loop in
+    let e : loop .j ≡ args .many = omega arith in rw e at (loop .inv .3)
 
 pub add-outputs-spec : {M : Type 1} → statement M
 add-outputs-spec =

@@ -1,3 +1,4 @@
+-- `sums::add_row` meets its contract. Sixteen columns a turn: read, summed and written back, by `row-turn`. Assumes nothing.
 use mathlib.Core.Path.{_≡_, sym}
 use Prim.Native.Nat.{_+_, _*_, _-_, _/_, _≤_}
 use native.Mathlib.Omega.{arith}
@@ -24,25 +25,43 @@ loop-holds : tie.Need-loop-holds Inv-loop μ-loop
 loop-holds c = (search needs, search needs, search needs, c .before .before .pre, sym (fill-none _ _ _))
 
 mul-t : tie.Need-mul-t Inv-loop μ-loop
-mul-t c = omega (arith, c .before .loop .inv .2, c .before .loop .inv .3 .sums-in, c .before .loop .inv .1, c .loop-test .taken)
+mul-t c =
+    let loop = c .before .loop in
+    omega (arith, loop .inv .2, loop .inv .3 .sums-in, loop .inv .1, c .loop-test .taken)
 
 add-load : tie.Need-add-load Inv-loop μ-loop
-add-load c = omega (arith, c .before .before .loop .inv .2, c .before .before .loop .inv .3 .sums-in, c .before .before .loop .inv .1, c .before .loop-test .taken)
+add-load c =
+    let loop = c .before .before .loop in
+    omega (arith, loop .inv .2, loop .inv .3 .sums-in, loop .inv .1, c .before .loop-test .taken)
 
 load-requires : tie.Need-load-requires Inv-loop μ-loop
-load-requires c κs = omega (arith, c .before .before .loop .inv .2, c .before .before .loop .inv .3 .sums-in, c .before .before .loop .inv .1, c .before .loop-test .taken)
+load-requires c κs =
+    let loop = c .before .before .loop in
+    omega (arith, loop .inv .2, loop .inv .3 .sums-in, loop .inv .1, c .before .loop-test .taken)
 
 add-add-inputs : tie.Need-add-add-inputs Inv-loop μ-loop
-add-add-inputs c = omega (arith, c .before .before .before .before .loop .inv .3 .inputs .inputs-in 0 (c .before .before .before .before .loop .inv .3 .some), c .before .before .before .before .loop .inv .1, c .before .before .before .loop-test .taken)
+add-add-inputs c =
+    let loop = c .before .before .before .before .loop in
+    let loop-test = c .before .before .before .loop-test in
+    omega (arith, loop .inv .3 .inputs .inputs-in 0 (loop .inv .3 .some), loop .inv .1, loop-test .taken)
 
 add-inputs-requires : tie.Need-add-inputs-requires Inv-loop μ-loop
-add-inputs-requires c κs = tile-fits (c .before .before .before .before .loop .i) _ (c .before .before .before .before .loop .inv .3) (c .before .before .before .loop-test .taken) (c .before .before .before .before .loop .inv .2)
+add-inputs-requires c κs =
+    let loop = c .before .before .before .before .loop in
+    let loop-test = c .before .before .before .loop-test in
+    tile-fits (loop .i) _ (loop .inv .3) (loop-test .taken) (loop .inv .2)
 
 add-save : tie.Need-add-save Inv-loop μ-loop
-add-save c = omega (arith, c .before .before .before .before .before .before .loop .inv .2, c .before .before .before .before .before .before .loop .inv .3 .sums-in, c .before .before .before .before .before .before .loop .inv .1, c .before .before .before .before .before .loop-test .taken)
+add-save c =
+    let loop = c .before .before .before .before .before .before .loop in
+    let loop-test = c .before .before .before .before .before .loop-test in
+    omega (arith, loop .inv .2, loop .inv .3 .sums-in, loop .inv .1, loop-test .taken)
 
 save-requires : tie.Need-save-requires Inv-loop μ-loop
-save-requires c κs = omega (arith, c .before .before .before .before .before .before .loop .inv .2, c .before .before .before .before .before .before .loop .inv .3 .sums-in, c .before .before .before .before .before .before .loop .inv .1, c .before .before .before .before .before .loop-test .taken)
+save-requires c κs =
+    let loop = c .before .before .before .before .before .before .loop in
+    let loop-test = c .before .before .before .before .before .loop-test in
+    omega (arith, loop .inv .2, loop .inv .3 .sums-in, loop .inv .1, loop-test .taken)
 
 add-i : tie.Need-add-i Inv-loop μ-loop
 add-i c = search needs
@@ -51,19 +70,28 @@ loop-less : tie.Need-loop-less Inv-loop μ-loop
 loop-less c = search needs
 
 loop-again : tie.Need-loop-again Inv-loop μ-loop
-loop-again c = (
+loop-again c =
+    let args = c .before .before .before .before .before .before .before .before .before .before .before .before .args in
+    let loop = c .before .before .before .before .before .before .before .before .before .loop in
+    let loop-test = c .before .before .before .before .before .before .before .before .loop-test in
+    let load = c .before .before .before .before .before .before .load in
+    let add-inputs = c .before .before .before .before .add-inputs in
+    let save = c .before .before .save in (
       search needs,
       search needs,
-      omega (arith, c .before .before .save .kept .0, c .before .before .before .before .before .before .before .before .before .loop .inv .2),
-      c .before .before .before .before .before .before .before .before .before .loop .inv .3,
-      row-turn (c .before .before .before .before .before .before .before .before .before .before .before .before .args .weights .now) (c .before .before .before .before .before .before .before .before .before .before .before .before .args .work .now) (c .before .before .before .before .before .before .before .before .before .loop .work) _ _ _ _ _ _ _ _ _ _ (c .before .before .before .before .before .before .before .before .before .loop .i) (c .before .before .before .before .before .before .before .before .before .loop .inv .3) (c .before .before .before .before .before .before .before .before .loop-test .taken) (c .before .before .before .before .before .before .before .before .before .loop .inv .4) (c .before .before .before .before .before .before .load .ensures) (c .before .before .before .before .add-inputs .ensures) (c .before .before .save .ensures),
+      omega (arith, save .kept .0, loop .inv .2),
+      loop .inv .3,
+      row-turn (args .weights .now) (args .work .now) (loop .work) _ _ _ _ _ _ _ _ _ _ (loop .i) (loop .inv .3) (loop-test .taken) (loop .inv .4) (load .ensures) (add-inputs .ensures) (save .ensures),
     )
 
 same-length : tie.Need-same-length Inv-loop μ-loop
 same-length c = search needs
 
 returns : tie.Need-returns Inv-loop μ-loop
-returns c = let e : c .before .loop .i * 16 ≡ c .before .before .before .before .args .n = omega (arith, c .before .loop .inv .3 .whole) in rw e at (c .before .loop .inv .4)
+returns c =
+    let args = c .before .before .before .before .args in
+    let loop = c .before .loop in
+    let e : loop .i * 16 ≡ args .n = omega (arith, loop .inv .3 .whole) in rw e at (loop .inv .4)
 
 pub add-row-spec : {M : Type 1} → statement M
 add-row-spec =

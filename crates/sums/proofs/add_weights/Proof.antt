@@ -1,3 +1,4 @@
+-- `sums::add_weights` meets its contract. Each lane is stored once, out of what it held; filled whole, that is a table. Assumes nothing.
 use mathlib.Core.Path.{_≡_, sym, _∙_}
 use Prim.Native.Nat.{_+_, _*_, _-_, _≤_}
 use native.Mathlib.Omega.{arith}
@@ -35,10 +36,14 @@ mul-r-3 : tie.Need-mul-r-3 Inv-loop μ-loop
 mul-r-3 c = omega (arith, c .before .before .pre (c .before .loop .i) (c .loop-test .taken))
 
 shared-slice-read-r : tie.Need-shared-slice-read-r Inv-loop μ-loop
-shared-slice-read-r c = omega (arith, c .before .before .before .pre (c .before .before .loop .i) (c .before .loop-test .taken))
+shared-slice-read-r c =
+    let pre = c .before .before .before .pre in
+    omega (arith, pre (c .before .before .loop .i) (c .before .loop-test .taken))
 
 mul-r-4 : tie.Need-mul-r-4 Inv-loop μ-loop
-mul-r-4 c = omega (arith, c .before .before .before .pre (c .before .before .loop .i) (c .before .loop-test .taken))
+mul-r-4 c =
+    let pre = c .before .before .before .pre in
+    omega (arith, pre (c .before .before .loop .i) (c .before .loop-test .taken))
 
 array-write-r : tie.Need-array-write-r Inv-loop μ-loop
 array-write-r c = search needs
@@ -50,10 +55,14 @@ loop-less : tie.Need-loop-less Inv-loop μ-loop
 loop-less c = search needs
 
 loop-again : tie.Need-loop-again Inv-loop μ-loop
-loop-again c = (search needs, search needs, search needs, fill-step _ _ _ _ _ (c .before .before .loop .inv .3) (rw (fill-apart nan _ _ (c .before .before .loop .i) _ _ _ (c .before .before .loop .inv .3) (omega arith))))
+loop-again c =
+    let loop = c .before .before .loop in
+    (search needs, search needs, search needs, fill-step _ _ _ _ _ (loop .inv .3) (rw (fill-apart nan _ _ (loop .i) _ _ _ (loop .inv .3) (omega arith))))
 
 returns : tie.Need-returns Inv-loop μ-loop
-returns c = let e : c .before .loop .i ≡ 8 = omega arith in (rw e at (c .before .loop .inv .3)) ∙ fill-all nan _ _ _ (c .before .loop .inv .1)
+returns c =
+    let loop = c .before .loop in
+    let e : loop .i ≡ 8 = omega arith in (rw e at (loop .inv .3)) ∙ fill-all nan _ _ _ (loop .inv .1)
 
 pub add-weights-spec : {M : Type 1} → statement M
 add-weights-spec =

@@ -1,3 +1,4 @@
+-- `sums::flat` meets its contract. One store more fills one place more. Assumes nothing.
 use mathlib.Core.Path.{_≡_, refl, sym}
 use Prim.Native.Nat.{_-_, _≤_}
 use native.Mathlib.Omega.{arith}
@@ -40,7 +41,9 @@ same-length : tie.Need-same-length Inv-loop μ-loop
 same-length c = search needs
 
 returns : tie.Need-returns Inv-loop μ-loop
-returns c = let e : c .before .loop .t ≡ c .before .before .args .n = omega arith in rw e at (c .before .loop .inv .2)
+returns c =
+    let loop = c .before .loop in
+    let e : loop .t ≡ c .before .before .args .n = omega arith in rw e at (loop .inv .2)
 
 pub flat-spec : {M : Type 1} → statement M
 flat-spec =

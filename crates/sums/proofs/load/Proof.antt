@@ -1,3 +1,4 @@
+-- `sums::load` meets its contract. Filled place by place, a list of sixteen is the table of its rule. Assumes nothing.
 use mathlib.Core.Path.{_≡_, refl, sym, _∙_}
 use Prim.Native.Nat.{_+_, _-_, _≤_}
 use native.Mathlib.Omega.{arith}
@@ -44,7 +45,9 @@ loop-again : tie.Need-loop-again Inv-loop μ-loop
 loop-again c = (search needs, search needs, search needs, fill-step _ _ _ _ _ (c .before .before .loop .inv .3) refl)
 
 returns : tie.Need-returns Inv-loop μ-loop
-returns c = let e : c .before .loop .i ≡ 16 = omega arith in (rw e at (c .before .loop .inv .3)) ∙ fill-all nan _ _ _ (c .before .loop .inv .1)
+returns c =
+    let loop = c .before .loop in
+    let e : loop .i ≡ 16 = omega arith in (rw e at (loop .inv .3)) ∙ fill-all nan _ _ _ (loop .inv .1)
 
 pub load-spec : {M : Type 1} → statement M
 load-spec =

@@ -1,3 +1,4 @@
+-- `sums::put` meets its contract. One store more is one row of one place more. Assumes nothing.
 use mathlib.Core.Path.{_≡_, refl}
 use Prim.Native.Nat.{_-_, _≤_}
 use native.Mathlib.Nat.{mul-le-mul-right}
@@ -50,7 +51,9 @@ same-length : tie.Need-same-length Inv-loop μ-loop
 same-length c = search needs
 
 returns : tie.Need-returns Inv-loop μ-loop
-returns c = let e : c .before .loop .i ≡ 8 = omega arith in rw e at (c .before .loop .inv .2)
+returns c =
+    let loop = c .before .loop in
+    let e : loop .i ≡ 8 = omega arith in rw e at (loop .inv .2)
 
 pub put-spec : {M : Type 1} → statement M
 put-spec =

@@ -1,3 +1,4 @@
+-- `sums::save` meets its contract. One store more fills one place more. Assumes nothing.
 use mathlib.Core.Path.{_≡_, refl, sym}
 use Prim.Native.Nat.{_-_, _≤_}
 use native.Mathlib.Omega.{arith}
@@ -46,7 +47,9 @@ same-length : tie.Need-same-length Inv-loop μ-loop
 same-length c = search needs
 
 returns : tie.Need-returns Inv-loop μ-loop
-returns c = let e : c .before .loop .i ≡ 16 = omega arith in rw e at (c .before .loop .inv .2)
+returns c =
+    let loop = c .before .loop in
+    let e : loop .i ≡ 16 = omega arith in rw e at (loop .inv .2)
 
 pub save-spec : {M : Type 1} → statement M
 save-spec =

@@ -1,4 +1,4 @@
-use Prim.Native.Nat.{_-_}
+-- `film::Modulation::apply` meets its contract. By the two cases of the flag. Assumes nothing.
 use Rattle.film.specs.Modulated.{modulated}
 use Rattle.film.proofs.Modulation.apply.Statement.{statement}
 use Rattle.film.proofs.Modulation.apply.Tie as tie

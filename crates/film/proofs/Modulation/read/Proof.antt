@@ -1,4 +1,4 @@
-use Prim.Native.Nat.{_-_}
+-- `film::Modulation::read` meets its contract. By the two cases of the flag. Assumes nothing.
 use native.Mathlib.Omega.{arith}
 use borrow.Author.Needs.{needs}
 use Rattle.film.specs.Modulated.{modulationOf}
@@ -18,7 +18,9 @@ mul-t11 : tie.Need-mul-t11
 mul-t11 c = omega (arith, c .before .before .pre .1 (c .before .if1 .taken))
 
 shared-slice-read-t13 : tie.Need-shared-slice-read-t13
-shared-slice-read-t13 c = omega (arith, c .before .before .before .pre .1 (c .before .before .if1 .taken))
+shared-slice-read-t13 c =
+    let pre = c .before .before .before .pre in
+    omega (arith, pre .1 (c .before .before .if1 .taken))
 
 mul-t14 : tie.Need-mul-t14
 mul-t14 c = search needs

@@ -1,5 +1,5 @@
+-- `ring::Ring::back` meets its contract. Within the places passed so far, or round the ring. Assumes nothing.
 use mathlib.Core.Path.{sym}
-use Prim.Native.Nat.{_-_}
 use borrow.Author.Needs.{needs}
 use Rattle.ring.proofs.Places.{back-in, back-round}
 use Rattle.ring.proofs.Ring.back.Statement.{statement}

@@ -1,4 +1,4 @@
-use Prim.Native.Nat.{_-_}
+-- `ring::Ring::next` meets its contract. The place moves on by one; past the last place it is zero. Assumes nothing.
 use borrow.Author.Needs.{needs}
 use Rattle.ring.proofs.Places.{next-on, next-zero}
 use Rattle.ring.proofs.Ring.next.Statement.{statement}
