@@ -29,6 +29,7 @@ pub fn steps_back(sh: Shape, k: usize) -> usize
     (sh.kernel - 1 - k) * sh.dilation
 }
 
+// What the sums of eight outputs start at.
 fn start_eight(weights: &[f32], biased: bool, from: usize) -> [f32; 8]
     requires { ⌜ (from < 4294967296) × (biased ≡ true → from + 8 ≤ length (now weights)) ⌝ }
     ensures { λ r. ⌜ r ≡ tab 8 (λ i. cond biased (at (now (weights .entry)) (from + i)) (ofBits binary32 0)) ⌝ }
@@ -41,6 +42,7 @@ fn start_eight(weights: &[f32], biased: bool, from: usize) -> [f32; 8]
     r
 }
 
+// All taps of the eight outputs from o on, which are of group g, onto their sums. Read out of the history, where the column was pushed.
 fn taps_eight(
     sums: [f32; 8],
     history: &[f32],
@@ -79,6 +81,7 @@ fn taps_eight(
     r
 }
 
+// All taps of output o, which is of group g, onto its sum.
 fn taps_one(
     sum: f32,
     history: &[f32],
@@ -89,7 +92,8 @@ fn taps_one(
     o: usize,
 ) -> f32
     requires { ⌜ PartsFit sh (ring .at) (ring .len) (length (now history)) (length (now weights)) × GroupFits sh g o 1 ⌝ }
-    ensures { λ r. ⌜ r ≡ tapsFrom sh (now (weights .entry)) (past (sh .ins) (ringLength sh) (record { history = now (history .entry); place = ring .at })) o (sh .kernel) sum ⌝ }
+    ensures { λ r. ⌜ r ≡ tapsFrom sh (now (weights .entry))
+        (past (sh .ins) (ringLength sh) (record { history = now (history .entry); place = ring .at })) o (sh .kernel) sum ⌝ }
 {
     let ins = sh.ins;
     let kernel = sh.kernel;
@@ -106,6 +110,7 @@ fn taps_one(
     r
 }
 
+// 8 q outputs of a stretch of group g, eight at a time. An output's number is m places after that of the output before.
 fn eights(
     work: &mut [f32],
     history: &[f32],
@@ -118,8 +123,10 @@ fn eights(
     first: usize,
     q: usize,
 )
-    requires { ⌜ PartsFit sh (ring .at) (ring .len) (length (now history)) (length (now weights)) × GroupFits sh g first (q * 8) × ((o : ℕ) → o < sh .outs → out + o * m < length (now work)) ⌝ }
-    ensures { λ _. ⌜ now (work .exit) ≡ rows (out + first * m) m 1 (q * 8) (λ i t. output sh (now (weights .entry)) (record { history = now (history .entry); place = ring .at }) (first + i)) (now (work .entry)) ⌝ }
+    requires { ⌜ PartsFit sh (ring .at) (ring .len) (length (now history)) (length (now weights)) × GroupFits sh g first (q * 8)
+        × ((o : ℕ) → o < sh .outs → out + o * m < length (now work)) ⌝ }
+    ensures { λ _. ⌜ now (work .exit) ≡ rows (out + first * m) m 1 (q * 8)
+        (λ i t. output sh (now (weights .entry)) (record { history = now (history .entry); place = ring .at }) (first + i)) (now (work .entry)) ⌝ }
 {
     let biased = sh.biased;
     let count = sh.kernel_count();
@@ -131,6 +138,7 @@ fn eights(
     }
 }
 
+// The q outputs of a stretch of group g, one at a time.
 fn ones(
     work: &mut [f32],
     history: &[f32],
@@ -143,8 +151,10 @@ fn ones(
     first: usize,
     q: usize,
 )
-    requires { ⌜ PartsFit sh (ring .at) (ring .len) (length (now history)) (length (now weights)) × GroupFits sh g first q × ((o : ℕ) → o < sh .outs → out + o * m < length (now work)) ⌝ }
-    ensures { λ _. ⌜ now (work .exit) ≡ rows (out + first * m) m 1 q (λ i t. output sh (now (weights .entry)) (record { history = now (history .entry); place = ring .at }) (first + i)) (now (work .entry)) ⌝ }
+    requires { ⌜ PartsFit sh (ring .at) (ring .len) (length (now history)) (length (now weights)) × GroupFits sh g first q
+        × ((o : ℕ) → o < sh .outs → out + o * m < length (now work)) ⌝ }
+    ensures { λ _. ⌜ now (work .exit) ≡ rows (out + first * m) m 1 q
+        (λ i t. output sh (now (weights .entry)) (record { history = now (history .entry); place = ring .at }) (first + i)) (now (work .entry)) ⌝ }
 {
     let biased = sh.biased;
     let count = sh.kernel_count();
@@ -156,6 +166,7 @@ fn ones(
     }
 }
 
+// The outputs of group g.
 fn group_outputs(
     work: &mut [f32],
     history: &[f32],
@@ -166,7 +177,8 @@ fn group_outputs(
     sh: Shape,
     g: usize,
 )
-    requires { ⌜ PartsFit sh (ring .at) (ring .len) (length (now history)) (length (now weights)) × (g < sh .groups) × ((o : ℕ) → o < sh .outs → out + o * m < length (now work)) ⌝ }
+    requires { ⌜ PartsFit sh (ring .at) (ring .len) (length (now history)) (length (now weights)) × (g < sh .groups)
+        × ((o : ℕ) → o < sh .outs → out + o * m < length (now work)) ⌝ }
     ensures { λ _. ⌜ now (work .exit) ≡ rows (out + g * outputsPerGroup sh * m) m 1 (outputsPerGroup sh)
         (λ i t. output sh (now (weights .entry)) (record { history = now (history .entry); place = ring .at }) (g * outputsPerGroup sh + i)) (now (work .entry)) ⌝ }
 {
@@ -188,6 +200,7 @@ fn group_outputs(
     );
 }
 
+// All outputs of the column pushed last.
 fn outputs(
     work: &mut [f32],
     history: &[f32],
@@ -197,8 +210,10 @@ fn outputs(
     ring: Ring,
     sh: Shape,
 )
-    requires { ⌜ PartsFit sh (ring .at) (ring .len) (length (now history)) (length (now weights)) × ((o : ℕ) → o < sh .outs → out + o * m < length (now work)) ⌝ }
-    ensures { λ _. ⌜ now (work .exit) ≡ rows out m 1 (sh .outs) (λ o t. output sh (now (weights .entry)) (record { history = now (history .entry); place = ring .at }) o) (now (work .entry)) ⌝ }
+    requires { ⌜ PartsFit sh (ring .at) (ring .len) (length (now history)) (length (now weights))
+        × ((o : ℕ) → o < sh .outs → out + o * m < length (now work)) ⌝ }
+    ensures { λ _. ⌜ now (work .exit) ≡ rows out m 1 (sh .outs)
+        (λ o t. output sh (now (weights .entry)) (record { history = now (history .entry); place = ring .at }) o) (now (work .entry)) ⌝ }
 {
     let groups = sh.groups;
     for g in 0..groups {
@@ -206,6 +221,7 @@ fn outputs(
     }
 }
 
+// One column of a block of m: its input at x, its output at out, each channel m places after the one before.
 pub fn column(
     work: &mut [f32],
     history: &mut [f32],
@@ -218,8 +234,10 @@ pub fn column(
 ) -> Ring
     requires { ⌜ PartsFit sh (ring .at) (ring .len) (length (now history)) (length (now weights))
         × ((c : ℕ) → c < sh .ins → x + c * m < length (now work)) × ((o : ℕ) → o < sh .outs → out + o * m < length (now work)) ⌝ }
-    ensures { λ r. ⌜ (record { history = now (history .exit); place = r .at } ≡ remembered sh (λ t c. at (now (work .entry)) (x + c * m + t)) (record { history = now (history .entry); place = ring .at }) 1)
-        × (now (work .exit) ≡ rows out m 1 (sh .outs) (λ o t. output sh (now (weights .entry)) (record { history = now (history .exit); place = r .at }) o) (now (work .entry)))
+    ensures { λ r. ⌜ (record { history = now (history .exit); place = r .at }
+        ≡ remembered sh (λ t c. at (now (work .entry)) (x + c * m + t)) (record { history = now (history .entry); place = ring .at }) 1)
+        × (now (work .exit) ≡ rows out m 1 (sh .outs)
+        (λ o t. output sh (now (weights .entry)) (record { history = now (history .exit); place = r .at }) o) (now (work .entry)))
         × (r .len ≡ ring .len) ⌝ }
 {
     let ins = sh.ins;

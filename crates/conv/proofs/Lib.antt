@@ -1,3 +1,4 @@
 pub mod Rows
 pub mod Block
 pub mod Cuts
+pub mod Trace

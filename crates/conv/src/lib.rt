@@ -15,6 +15,7 @@ use shape::Shape;
 
 // ---- many columns at once: weight by weight, sixteen columns side by side
 
+// Every output row at what its sum starts at.
 fn start(work: &mut [f32], weights: &[f32], out: usize, m: usize, n: usize, sh: Shape)
     requires { ⌜ InRange sh × Divided sh × (length (now weights) ≡ weightCount sh) × ((o : ℕ) → o < sh .outs → out + o * m + n ≤ length (now work)) ⌝ }
     ensures { λ _. ⌜ now (work .exit) ≡ rows out m n (sh .outs) (λ o t. startOf sh (now (weights .entry)) o) (now (work .entry)) ⌝ }
@@ -28,6 +29,7 @@ fn start(work: &mut [f32], weights: &[f32], out: usize, m: usize, n: usize, sh: 
     }
 }
 
+// Tap k, onto the rows of group g. It reads rows that are stride apart from `from` on; the sums are rows of m from out on, n columns of them.
 fn tap_group(
     work: &mut [f32],
     weights: &[f32],
@@ -65,6 +67,7 @@ fn tap_group(
     }
 }
 
+// Tap k, onto every output row.
 fn tap(
     work: &mut [f32],
     weights: &[f32],
@@ -97,6 +100,7 @@ fn in_place(back: usize, m: usize, n: usize) -> bool
     false
 }
 
+// Tap k, wherever its columns are.
 fn read_tap(
     work: &mut [f32],
     history: &[f32],
@@ -123,6 +127,7 @@ fn read_tap(
     }
 }
 
+// Every tap, tap 0 upward.
 fn taps(
     work: &mut [f32],
     history: &[f32],
@@ -144,6 +149,7 @@ fn taps(
     }
 }
 
+// n columns, a whole number of sixteens. Stored after computing: there may be more of them than the history holds.
 fn columns(
     work: &mut [f32],
     history: &mut [f32],
@@ -168,6 +174,8 @@ fn columns(
 
 // ---- a block, cut into parts
 
+// How many columns to play next of those that are left: whole sixteens, side by side, and at most 256 of them, whose rows the nearest memory holds;
+// then one by one.
 fn width(left: usize) -> usize
     requires { ⌜ 0 < left ⌝ }
     ensures { λ r. ⌜ Cut left r ⌝ }
@@ -181,6 +189,7 @@ fn width(left: usize) -> usize
     256
 }
 
+// The next n columns.
 fn part(
     work: &mut [f32],
     history: &mut [f32],
@@ -203,6 +212,8 @@ fn part(
     columns(work, history, weights, x, out, rows, ring, sh, m, n)
 }
 
+// The block: m columns from region x through the convolution into region out; region rows is used up. The contract says what it comes to column by
+// column, as each would be pushed by itself.
 pub fn conv(
     work: &mut [f32],
     history: &mut [f32],

@@ -49,10 +49,10 @@ pub fn store(
         × (r .len ≡ ring .len) ⌝ }
 {
     let mut place = ring;
-    for t in 0..n {
+    for column in 0..n {
         place = place.next();
         let at = place.at;
-        store_column(history, work, at * ins, x + t, stride, ins);
+        store_column(history, work, at * ins, x + column, stride, ins);
     }
     place
 }

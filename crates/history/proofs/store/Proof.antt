@@ -61,8 +61,8 @@ store-column-requires c κs =
     let end = column-end (args .ins) len (next .result .at) _ lt (pre .history-is) in
     (omega (arith, end, l .inv .1), λ j hj. omega (arith, pre .block-in j hj, c .before .before .loop-test .taken))
 
-add-t : tie.Need-add-t Inv-loop μ-loop
-add-t c = search needs
+add-column : tie.Need-add-column Inv-loop μ-loop
+add-column c = search needs
 
 loop-less : tie.Need-loop-less Inv-loop μ-loop
 loop-less c = search needs
@@ -79,12 +79,12 @@ loop-again c =
     let to : next .result .at ≡ nextPlace len (l .place .at) = rw (ap (λ (r : Ring). r .at) (next .ensures), l .inv .2) in
     let lt : next .result .at < len = rw to (next-lt len (l .place .at) (l .inv .3)) in
     let end = column-end (args .ins) len (next .result .at) _ lt (pre .history-is) in
-    let same : (j : ℕ) → args .x + l .t + j * args .stride ≡ args .x + j * args .stride + l .t = λ j. omega arith in (
+    let same : (j : ℕ) → args .x + l .column + j * args .stride ≡ args .x + j * args .stride + l .column = λ j. omega arith in (
       search needs,
       omega (arith, store-column .kept .0, l .inv .1),
       ap (λ (r : Ring). r .len) (next .ensures) ∙ l .inv .2,
       lt,
-      store-turn _ len (l .t) _ _ (l .history) _ (l .place .at) _ _ (l .inv .4) to (store-column .ensures) (λ j hj. ap (at (args .work .now)) (same j)),
+      store-turn _ len (l .column) _ _ (l .history) _ (l .place .at) _ _ (l .inv .4) to (store-column .ensures) (λ j hj. ap (at (args .work .now)) (same j)),
     )
 
 same-length : tie.Need-same-length Inv-loop μ-loop
@@ -94,7 +94,7 @@ returns : tie.Need-returns Inv-loop μ-loop
 returns c =
     let args = c .before .before .before .before .args in
     let loop = c .before .loop in
-    let e : loop .t ≡ args .n = omega arith in (rw e at (loop .inv .4), loop .inv .2)
+    let e : loop .column ≡ args .n = omega arith in (rw e at (loop .inv .4), loop .inv .2)
 
 pub store-spec : {M : Type 1} → statement M
 store-spec =
@@ -107,7 +107,7 @@ store-spec =
     mul-store-column
     add-store-column
     store-column-requires
-    add-t
+    add-column
     loop-less
     loop-again
     same-length
