@@ -1,15 +1,15 @@
--- One column: what `eights`, `ones` and the groups come to. Assumes nothing.
+-- One column: lanes are outputs, stretches of outputs make a group, groups make all; and the memory keeps its size. Assumes nothing.
 use mathlib.Core.Path.{_≡_, sym, _∙_, ap}
 use mathlib.Core.Bool.{cond}
 use mathlib.Core.List.{List}
-use Prim.Native.Nat.{ℕ, _+_, _-_, _*_, _≤_, _<_}
+use Prim.Native.Nat.{ℕ, min, _+_, _*_, _≤_, _<_}
 use native.Mathlib.Omega.{arith}
 use lib.ListN.{length, set}
 use lib.Ieee.{Float, nan, binary32, ofBits}
 use Rattle.lists.specs.Tab.{at, tab, rows}
 use Rattle.lists.proofs.Nums.{row-next}
 use Rattle.lists.proofs.Tab.{at-tab}
-use Rattle.lists.proofs.Rows.{rows-ext, rows-join, rows-cell}
+use Rattle.lists.proofs.Rows.{rows-none, rows-ext, rows-join, rows-cell}
 use Rattle.ring.specs.Memory.{Memory, Sound, past, after}
 use Rattle.ring.proofs.Window.{after-sound}
 use Rattle.shape.specs.declared.Shape.{Shape}
@@ -18,54 +18,49 @@ use Rattle.column.specs.Recurrence.{startOf, tapsFrom, output}
 use Rattle.column.specs.Fits.{PartsFit}
 
 module _ (sh : Shape) (weights : List Float) (s : Memory) where
-  -- eight outputs from o on
-  pub eight-is : (o count : ℕ) (begun sums : List Float) → count ≡ kernelCount sh → begun ≡ tab 8 (λ i. cond (sh .biased) (at weights (count + o + i)) (ofBits binary32 0))
-      → sums ≡ tab 8 (λ i. tapsFrom sh weights (past (sh .ins) (ringLength sh) s) (o + i) (sh .kernel) (at begun i)) → (i : ℕ) → i < 8 → at sums i ≡ output sh weights s (o + i)
+  -- a lane's sum, from what it starts at, is its output
+  pub lane-output : (o i count : ℕ) (begun sum : Float) → count ≡ kernelCount sh → begun ≡ cond (sh .biased) (at weights (count + o + i)) (ofBits binary32 0)
+      → sum ≡ tapsFrom sh weights (past (sh .ins) (ringLength sh) s) (o + i) (sh .kernel) begun → sum ≡ output sh weights s (o + i)
   unfolding output startOf
-  eight-is o count begun sums e b h i hi =
+  lane-output o i count begun sum e b h =
       let is : kernelCount sh + o + i ≡ kernelCount sh + (o + i) = omega arith in
-      rw (h, at-tab nan 8 _ i hi, b, at-tab nan 8 _ i hi, e, is)
+      rw (h, b, e, is)
 
-  -- one turn of `eights`
-  pub eights-turn : (old work last sums : List Float) (out m first i : ℕ) → ((k : ℕ) → k < 8 → at sums k ≡ output sh weights s (first + i * 8 + k))
-      → work ≡ rows (out + first * m) m 1 (i * 8) (λ i t. output sh weights s (first + i)) old
-      → last ≡ rows (out + (first + i * 8) * m) m 1 8 (λ k t. at sums k) work
-      → last ≡ rows (out + first * m) m 1 ((i + 1) * 8) (λ i t. output sh weights s (first + i)) old
-  eights-turn old work last sums out m first i h e l =
-      let here : out + (first + i * 8) * m ≡ out + first * m + i * 8 * m = omega arith in
-      let next : (i + 1) * 8 ≡ i * 8 + 8 = omega arith in
-      let mid : last ≡ rows (out + first * m + i * 8 * m) m 1 8 (λ k t. output sh weights s (first + (i * 8 + k))) work =
-      rw (l, here) (rows-ext (out + first * m + i * 8 * m) m 1 8 _ (λ k t. output sh weights s (first + (i * 8 + k))) work (λ k t hk ht.
-      let is : first + i * 8 + k ≡ first + (i * 8 + k) = omega arith in
-      h k hk ∙ ap (output sh weights s) is)) in
-      mid ∙ rw (e, next) (rows-join (out + first * m) m 1 (i * 8) 8 (λ i t. output sh weights s (first + i)) old)
+  -- the first n lanes are n outputs from o on
+  pub lanes-are : (o count n last : ℕ) (begun sums : List Float) → count ≡ kernelCount sh → n ≤ 8 → n ≡ last + 1
+      → begun ≡ tab 8 (λ i. cond (sh .biased) (at weights (count + o + min i last)) (ofBits binary32 0))
+      → sums ≡ tab 8 (λ i. tapsFrom sh weights (past (sh .ins) (ringLength sh) s) (o + min i last) (sh .kernel) (at begun i))
+      → (i : ℕ) → i < n → at sums i ≡ output sh weights s (o + i)
+  lanes-are o count n last begun sums e le en b h i hi =
+      let own : min i last ≡ i = omega arith in
+      let eight : i < 8 = omega arith in
+      lane-output o i count (at begun i) (at sums i) e
+      (rw (b, at-tab nan 8 _ i eight, own))
+      (rw (h, at-tab nan 8 _ i eight, own))
 
-  -- one turn of `ones`
-  pub ones-turn : (old work : List Float) (out m first i count : ℕ) (begun sum : Float) → count ≡ kernelCount sh
-      → begun ≡ cond (sh .biased) (at weights (count + (first + i))) (ofBits binary32 0)
-      → sum ≡ tapsFrom sh weights (past (sh .ins) (ringLength sh) s) (first + i) (sh .kernel) begun
-      → work ≡ rows (out + first * m) m 1 i (λ i t. output sh weights s (first + i)) old
-      → set work (out + (first + i) * m) sum ≡ rows (out + first * m) m 1 (i + 1) (λ i t. output sh weights s (first + i)) old
+  -- one output alone
+  pub one-is : (old : List Float) (out m o count n : ℕ) (begun sum : Float) → count ≡ kernelCount sh → n ≡ 1
+      → begun ≡ cond (sh .biased) (at weights (count + o)) (ofBits binary32 0) → sum ≡ tapsFrom sh weights (past (sh .ins) (ringLength sh) s) o (sh .kernel) begun
+      → set old (out + o * m) sum ≡ rows (out + o * m) m 1 n (λ i t. output sh weights s (o + i)) old
   unfolding output startOf
-  ones-turn old work out m first i count begun sum e b h r =
-      let here : out + (first + i) * m ≡ out + first * m + i * m = omega arith in
-      let value : sum ≡ output sh weights s (first + i) = rw (h, b, e) in
-      rw here (rows-cell (out + first * m) m i (λ i t. output sh weights s (first + i)) work old sum r value)
+  one-is old out m o count n begun sum e en b h =
+      let here : out + o * m ≡ out + o * m + 0 * m = omega arith in
+      let own : o + 0 ≡ o = omega arith in
+      let cell : set old (out + o * m + 0 * m) sum ≡ rows (out + o * m) m 1 1 (λ i t. output sh weights s (o + i)) old =
+      rows-cell (out + o * m) m 0 (λ i t. output sh weights s (o + i)) old old sum (rows-none _ _ _ _ _) (rw (own, h, b, e)) in
+      ap (λ (i : ℕ). set old i sum) here ∙ rw en cell
 
-  -- the eights, then the rest
-  pub both : (old work last : List Float) (out m first n q : ℕ) → q ≤ n → work ≡ rows (out + first * m) m 1 q (λ i t. output sh weights s (first + i)) old
-      → last ≡ rows (out + (first + q) * m) m 1 (n - q) (λ i t. output sh weights s (first + q + i)) work
-      → last ≡ rows (out + first * m) m 1 n (λ i t. output sh weights s (first + i)) old
-  both old work last out m first n q le e l =
-      let here : out + (first + q) * m ≡ out + first * m + q * m = omega arith in
-      let all : q + (n - q) ≡ n = omega arith in
-      let mid : last ≡ rows (out + first * m + q * m) m 1 (n - q) (λ i t. output sh weights s (first + (q + i))) work =
-      rw (l, here) (rows-ext (out + first * m + q * m) m 1 (n - q) _ (λ i t. output sh weights s (first + (q + i))) work (λ i t hi ht.
-      let is : first + q + i ≡ first + (q + i) = omega arith in
+  -- n outputs more
+  pub outputs-turn : (old work last : List Float) (out m first i n : ℕ) → work ≡ rows (out + first * m) m 1 i (λ i t. output sh weights s (first + i)) old
+      → last ≡ rows (out + (first + i) * m) m 1 n (λ k t. output sh weights s (first + i + k)) work
+      → last ≡ rows (out + first * m) m 1 (i + n) (λ i t. output sh weights s (first + i)) old
+  outputs-turn old work last out m first i n e l =
+      let here : out + (first + i) * m ≡ out + first * m + i * m = omega arith in
+      let more : last ≡ rows (out + first * m + i * m) m 1 n (λ k t. output sh weights s (first + (i + k))) work =
+      rw (l, here) (rows-ext (out + first * m + i * m) m 1 n _ (λ k t. output sh weights s (first + (i + k))) work (λ k t hk ht.
+      let is : first + i + k ≡ first + (i + k) = omega arith in
       ap (output sh weights s) is)) in
-      let join : last ≡ rows (out + first * m) m 1 (q + (n - q)) (λ i t. output sh weights s (first + i)) old =
-      mid ∙ rw e (rows-join (out + first * m) m 1 q (n - q) (λ i t. output sh weights s (first + i)) old) in
-      join ∙ ap (λ (k : ℕ). rows (out + first * m) m 1 k (λ i t. output sh weights s (first + i)) old) all
+      more ∙ rw e (rows-join (out + first * m) m 1 i n (λ i t. output sh weights s (first + i)) old)
 
   -- one turn of `outputs`: group g
   pub groups-turn : (old work last : List Float) (out m g n : ℕ) → work ≡ rows out m 1 (g * n) (λ o t. output sh weights s o) old

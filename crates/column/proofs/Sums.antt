@@ -80,9 +80,9 @@ module _ {sh : Shape} {place len nhistory nweights g o n ipg : ℕ} (f : PartsFi
       column-end (sh .ins) len column nhistory lt (rw (f .ring-is) (f .history-is))
 
   pub outputs-fit : (k column : ℕ) → k < sh .kernel → column ≡ placeBack len place (stepsBack sh k)
-      → OutputsFit nhistory nweights (column * sh .ins + g * ipg) (o * (ipg * sh .kernel) + k) (ipg * sh .kernel) (sh .kernel) ipg n
+      → (last : ℕ) → last < n → OutputsFit nhistory nweights (column * sh .ins + g * ipg) (o * (ipg * sh .kernel) + k) (ipg * sh .kernel) last (sh .kernel) ipg
   unfolding weightIndex
-  outputs-fit k column hk c = record {
+  outputs-fit k column hk c last hl = record {
     values-in = omega (arith, column-in k column c, base-in);
     weights-in = λ i j hi hj.
         let w = weight-in (f .divided) (f .range) (o + i) j k (omega (arith, outs-in, hi)) (rw (sym e) hj) hk in

@@ -1,8 +1,8 @@
-// One column through a convolution: pushed, then its outputs taken, eight side by side. Carries conv.rs (`process_sample`). Document 01, 'The
+// One column through a convolution: pushed, then its outputs taken, up to eight side by side. Carries conv.rs (`process_sample`). Document 01, 'The
 // recurrence': start at the bias, or +0 without one; add product by product, tap 0 upward, within a tap local input 0 upward.
 ghost use mathlib.Core.Path.{_≡_};
 ghost use mathlib.Core.Bool.{true, cond};
-ghost use Prim.Native.Nat.{ℕ, _+_, _*_, _≤_, _<_};
+ghost use Prim.Native.Nat.{ℕ, _+_, _*_, _≤_, _<_, min};
 ghost use lib.ListN.{length};
 ghost use lib.Ieee.{ofBits, binary32};
 ghost use Rattle.lists.specs.Tab.{at, tab, rows};
@@ -29,20 +29,21 @@ pub fn steps_back(sh: Shape, k: usize) -> usize
     (sh.kernel - 1 - k) * sh.dilation
 }
 
-// What the sums of eight outputs start at.
-fn start_eight(weights: &[f32], biased: bool, from: usize) -> [f32; 8]
-    requires { ⌜ (from < 4294967296) × (biased ≡ true → from + 8 ≤ length (now weights)) ⌝ }
-    ensures { λ r. ⌜ r ≡ tab 8 (λ i. cond biased (at (now (weights .entry)) (from + i)) (ofBits binary32 0)) ⌝ }
+// What the sums of eight lanes start at.
+fn start_eight(weights: &[f32], biased: bool, from: usize, last: usize) -> [f32; 8]
+    requires { ⌜ (from + last < 4294967296) × (biased ≡ true → from + last < length (now weights)) ⌝ }
+    ensures { λ r. ⌜ r ≡ tab 8 (λ i. cond biased (at (now (weights .entry)) (from + min i last)) (ofBits binary32 0)) ⌝ }
 {
     let mut r = [0.0f32; 8];
     for i in 0..8 {
-        let b = bias(weights, biased, from + i);
+        let o = sums::lane(i, last);
+        let b = bias(weights, biased, from + o);
         r[i] = b;
     }
     r
 }
 
-// All taps of the eight outputs from o on, which are of group g, onto their sums. Read out of the history, where the column was pushed.
+// All taps of the outputs o .. o + last, which are of group g, onto the sums of eight lanes. Read out of the history, where the column was pushed.
 fn taps_eight(
     sums: [f32; 8],
     history: &[f32],
@@ -51,10 +52,11 @@ fn taps_eight(
     sh: Shape,
     g: usize,
     o: usize,
+    last: usize,
 ) -> [f32; 8]
-    requires { ⌜ PartsFit sh (ring .at) (ring .len) (length (now history)) (length (now weights)) × GroupFits sh g o 8 ⌝ }
+    requires { ⌜ PartsFit sh (ring .at) (ring .len) (length (now history)) (length (now weights)) × GroupFits sh g o (last + 1) ⌝ }
     ensures { λ r. ⌜ r ≡ tab 8 (λ i. tapsFrom sh (now (weights .entry))
-        (past (sh .ins) (ringLength sh) (record { history = now (history .entry); place = ring .at })) (o + i) (sh .kernel) (at sums i)) ⌝ }
+        (past (sh .ins) (ringLength sh) (record { history = now (history .entry); place = ring .at })) (o + min i last) (sh .kernel) (at sums i)) ⌝ }
 {
     let ins = sh.ins;
     let kernel = sh.kernel;
@@ -73,6 +75,7 @@ fn taps_eight(
             column * ins + base,
             w + k,
             between,
+            last,
             kernel,
             ipg,
         );
@@ -110,8 +113,8 @@ fn taps_one(
     r
 }
 
-// 8 q outputs of a stretch of group g, eight at a time. An output's number is m places after that of the output before.
-fn eights(
+// The n outputs from o on, which are of group g: side by side, but for one alone. An output's number is m places after that of the output before.
+fn some_outputs(
     work: &mut [f32],
     history: &[f32],
     weights: &[f32],
@@ -120,53 +123,28 @@ fn eights(
     ring: Ring,
     sh: Shape,
     g: usize,
-    first: usize,
-    q: usize,
+    o: usize,
+    n: usize,
 )
-    requires { ⌜ PartsFit sh (ring .at) (ring .len) (length (now history)) (length (now weights)) × GroupFits sh g first (q * 8)
+    requires { ⌜ PartsFit sh (ring .at) (ring .len) (length (now history)) (length (now weights)) × GroupFits sh g o n × (0 < n) × (n ≤ 8)
         × ((o : ℕ) → o < sh .outs → out + o * m < length (now work)) ⌝ }
-    ensures { λ _. ⌜ now (work .exit) ≡ rows (out + first * m) m 1 (q * 8)
-        (λ i t. output sh (now (weights .entry)) (record { history = now (history .entry); place = ring .at }) (first + i)) (now (work .entry)) ⌝ }
+    ensures { λ _. ⌜ now (work .exit) ≡ rows (out + o * m) m 1 n
+        (λ i t. output sh (now (weights .entry)) (record { history = now (history .entry); place = ring .at }) (o + i)) (now (work .entry)) ⌝ }
 {
     let biased = sh.biased;
-    let count = sh.kernel_count();
-    for i in 0..q {
-        let o = first + i * 8;
-        let begun = start_eight(weights, biased, count + o);
-        let sums = taps_eight(begun, history, weights, ring, sh, g, o);
-        sums::put(work, out + o * m, m, sums);
-    }
-}
-
-// The q outputs of a stretch of group g, one at a time.
-fn ones(
-    work: &mut [f32],
-    history: &[f32],
-    weights: &[f32],
-    out: usize,
-    m: usize,
-    ring: Ring,
-    sh: Shape,
-    g: usize,
-    first: usize,
-    q: usize,
-)
-    requires { ⌜ PartsFit sh (ring .at) (ring .len) (length (now history)) (length (now weights)) × GroupFits sh g first q
-        × ((o : ℕ) → o < sh .outs → out + o * m < length (now work)) ⌝ }
-    ensures { λ _. ⌜ now (work .exit) ≡ rows (out + first * m) m 1 q
-        (λ i t. output sh (now (weights .entry)) (record { history = now (history .entry); place = ring .at }) (first + i)) (now (work .entry)) ⌝ }
-{
-    let biased = sh.biased;
-    let count = sh.kernel_count();
-    for i in 0..q {
-        let o = first + i;
-        let begun = bias(weights, biased, count + o);
+    let from = sh.kernel_count() + o;
+    if n == 1 {
+        let begun = bias(weights, biased, from);
         let sum = taps_one(begun, history, weights, ring, sh, g, o);
         work[out + o * m] = sum;
+    } else {
+        let begun = start_eight(weights, biased, from, n - 1);
+        let sums = taps_eight(begun, history, weights, ring, sh, g, o, n - 1);
+        sums::put(work, out + o * m, m, sums, n);
     }
 }
 
-// The outputs of group g.
+// The outputs of group g, eight at a time.
 fn group_outputs(
     work: &mut [f32],
     history: &[f32],
@@ -184,20 +162,12 @@ fn group_outputs(
 {
     let opg = sh.outputs_per_group();
     let first = g * opg;
-    let q = opg / 8;
-    eights(work, history, weights, out, m, ring, sh, g, first, q);
-    ones(
-        work,
-        history,
-        weights,
-        out,
-        m,
-        ring,
-        sh,
-        g,
-        first + q * 8,
-        opg - q * 8,
-    );
+    let mut i = 0;
+    while i < opg {
+        let n = sums::lane(opg - i, 8);
+        some_outputs(work, history, weights, out, m, ring, sh, g, first + i, n);
+        i = i + n;
+    }
 }
 
 // All outputs of the column pushed last.

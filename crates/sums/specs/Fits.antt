@@ -16,7 +16,7 @@ pub record RowFits (nwork nweights to from stride n w step many : ℕ) : Type 0 
   pub inputs : InputsFit nwork nweights from stride n w step many
   pub apart : (j : ℕ) → j < many → Apart to n (from + j * stride) n
 
--- `many` inputs next to each other from `from` on, and of n outputs the weights, which are `between` apart
-pub record OutputsFit (nvalues nweights from w between step many n : ℕ) : Type 0 where
+-- `many` inputs next to each other from `from` on, and the weights of the outputs 0 .. last, which are `between` apart
+pub record OutputsFit (nvalues nweights from w between last step many : ℕ) : Type 0 where
   pub values-in : from + many ≤ nvalues
-  pub weights-in : (i j : ℕ) → i < n → j < many → w + i * between + j * step < nweights
+  pub weights-in : (i j : ℕ) → i ≤ last → j < many → w + i * between + j * step < nweights

@@ -1,7 +1,7 @@
 // Sums side by side: sixteen columns of one output, or eight outputs of one column. Each sum keeps its own order; side by side none waits for another,
 // and the compiler makes four additions one. Carries the inner loops of conv.rs. Document 01, 'The recurrence': add product by product.
 ghost use mathlib.Core.Path.{_≡_};
-ghost use Prim.Native.Nat.{ℕ, _+_, _*_, _≤_, _<_};
+ghost use Prim.Native.Nat.{ℕ, _+_, _*_, _≤_, _<_, min};
 ghost use lib.ListN.{length};
 ghost use lib.Ieee.{add, mul, binary32};
 ghost use Rattle.lists.specs.Tab.{at, tab, fill, rows};
@@ -101,19 +101,34 @@ pub fn flat(work: &mut [f32], to: usize, n: usize, v: f32)
     }
 }
 
-// One input's product, in each of eight outputs, whose weights are `between` apart.
-fn add_weights(sums: [f32; 8], weights: &[f32], w: usize, between: usize, x: f32) -> [f32; 8]
-    requires { ⌜ ((i : ℕ) → i < 8 → w + i * between < length (now weights)) ⌝ }
-    ensures { λ r. ⌜ r ≡ tab 8 (λ i. add binary32 (at sums i) (mul binary32 (at (now (weights .entry)) (w + i * between)) x)) ⌝ }
+// Lane i's output: where there are fewer outputs than lanes, the last one's again.
+pub fn lane(i: usize, last: usize) -> usize
+    ensures { λ r. ⌜ r ≡ min i last ⌝ }
+{
+    if i < last { i } else { last }
+}
+
+// One input's product, in each of eight lanes. The weights of two outputs are `between` apart.
+fn add_weights(
+    sums: [f32; 8],
+    weights: &[f32],
+    w: usize,
+    between: usize,
+    last: usize,
+    x: f32,
+) -> [f32; 8]
+    requires { ⌜ ((i : ℕ) → i ≤ last → w + i * between < length (now weights)) ⌝ }
+    ensures { λ r. ⌜ r ≡ tab 8 (λ i. add binary32 (at sums i) (mul binary32 (at (now (weights .entry)) (w + min i last * between)) x)) ⌝ }
 {
     let mut r = sums;
     for i in 0..8 {
-        r[i] = r[i] + weights[w + i * between] * x;
+        let o = lane(i, last);
+        r[i] = r[i] + weights[w + o * between] * x;
     }
     r
 }
 
-// Every input's product, in each of eight outputs.
+// Every input's product, in each of eight lanes.
 pub fn add_outputs(
     sums: [f32; 8],
     values: &[f32],
@@ -121,16 +136,17 @@ pub fn add_outputs(
     from: usize,
     w: usize,
     between: usize,
+    last: usize,
     step: usize,
     many: usize,
 ) -> [f32; 8]
-    requires { ⌜ OutputsFit (length (now values)) (length (now weights)) from w between step many 8 ⌝ }
+    requires { ⌜ OutputsFit (length (now values)) (length (now weights)) from w between last step many ⌝ }
     ensures { λ r. ⌜ r ≡ tab 8 (λ i. sumFrom (at sums i) many
-        (product (now (weights .entry)) (w + i * between) step (λ j. at (now (values .entry)) (from + j)))) ⌝ }
+        (product (now (weights .entry)) (w + min i last * between) step (λ j. at (now (values .entry)) (from + j)))) ⌝ }
 {
     let mut r = sums;
     for j in 0..many {
-        let more = add_weights(r, weights, w + j * step, between, values[from + j]);
+        let more = add_weights(r, weights, w + j * step, between, last, values[from + j]);
         r = more;
     }
     r
@@ -146,7 +162,7 @@ pub fn add_output(
     step: usize,
     many: usize,
 ) -> f32
-    requires { ⌜ OutputsFit (length (now values)) (length (now weights)) from w 0 step many 1 ⌝ }
+    requires { ⌜ OutputsFit (length (now values)) (length (now weights)) from w 0 0 step many ⌝ }
     ensures { λ r. ⌜ r ≡ sumFrom sum many (product (now (weights .entry)) w step (λ j. at (now (values .entry)) (from + j))) ⌝ }
 {
     let mut r = sum;
@@ -156,12 +172,12 @@ pub fn add_output(
     r
 }
 
-// Eight numbers into work, stride apart.
-pub fn put(work: &mut [f32], to: usize, stride: usize, sums: [f32; 8])
-    requires { ⌜ to + 7 * stride < length (now work) ⌝ }
-    ensures { λ _. ⌜ now (work .exit) ≡ rows to stride 1 8 (λ i t. at sums i) (now (work .entry)) ⌝ }
+// The first n of eight numbers into work, stride apart.
+pub fn put(work: &mut [f32], to: usize, stride: usize, sums: [f32; 8], n: usize)
+    requires { ⌜ (n ≤ 8) × ((i : ℕ) → i < n → to + i * stride < length (now work)) ⌝ }
+    ensures { λ _. ⌜ now (work .exit) ≡ rows to stride 1 n (λ i t. at sums i) (now (work .entry)) ⌝ }
 {
-    for i in 0..8 {
+    for i in 0..n {
         work[to + i * stride] = sums[i];
     }
 }

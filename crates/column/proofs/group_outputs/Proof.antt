@@ -1,130 +1,135 @@
--- `column::group_outputs` meets its contract. The eights, then the rest, by `both`. Assumes nothing.
-use mathlib.Core.Path.{sym}
-use Prim.Native.Nat.{_*_, _-_, _/_}
+-- `column::group_outputs` meets its contract. Up to eight outputs more a turn, by `outputs-turn`. Assumes nothing.
+use mathlib.Core.Path.{_≡_, sym}
+use Prim.Native.Nat.{_+_, _*_, _-_, _≤_}
 use native.Mathlib.Omega.{arith}
+use lib.ListN.{length}
 use borrow.Author.Needs.{needs}
+use Rattle.lists.proofs.Rows.{rows-none}
 use Rattle.column.proofs.Indices.{group-end, group-fits, stretch}
-use Rattle.column.proofs.OneColumn.{both}
-use Rattle.lists.specs.Tab.{at}
+use Rattle.column.proofs.OneColumn.{outputs-turn}
+use Rattle.column.specs.Recurrence.{output}
+use Rattle.lists.specs.Tab.{at, rows}
 use Rattle.column.proofs.group_outputs.Statement.{statement}
 use Rattle.column.proofs.group_outputs.Tie as tie
 
-outputs-per-group-requires : tie.Need-outputs-per-group-requires
+abbrev Inv-loop : tie.InvT-loop
+Inv-loop work₀ history weights out m ring sh g opg first i₀ work i =
+    (i ≤ opg) × (length work ≡ length work₀) × (work ≡ rows (out + first * m) m 1 i (λ i t. output sh weights (record { history = history; place = ring .at }) (first + i)) work₀)
+
+abbrev μ-loop : tie.MeasureT-loop
+μ-loop work₀ history weights out m ring sh g opg first i₀ work i = opg - i
+
+outputs-per-group-requires : tie.Need-outputs-per-group-requires Inv-loop μ-loop
 outputs-per-group-requires c κs =
     let pre = c .before .before .before .pre in
     pre .0 .range
 
-mul-first : tie.Need-mul-first
+mul-first : tie.Need-mul-first Inv-loop μ-loop
 mul-first c =
     let pre = c .before .before .before .before .pre in
     let args = c .before .before .before .before .args in
     let e = c .outputs-per-group .ensures in
-    let opg = c .outputs-per-group .result in
     let d = pre .0 .divided in
     let r = pre .0 .range in
     let end = rw (sym e) at (group-end d r (args .g) (pre .1)) in
     omega (arith, end, r .outs-high)
 
-eights-requires : tie.Need-eights-requires
-eights-requires c κs =
-    let pre = c .before .before .before .before .before .pre in
-    let args = c .before .before .before .before .before .args in
-    let outputs-per-group = c .before .outputs-per-group in
+loop-holds : tie.Need-loop-holds Inv-loop μ-loop
+loop-holds c = (search needs, search needs, rows-none _ _ _ _ _)
+
+sub-lane : tie.Need-sub-lane Inv-loop μ-loop
+sub-lane c = search needs
+
+lane-requires : tie.Need-lane-requires Inv-loop μ-loop
+lane-requires c κs = search needs
+
+add-some-outputs : tie.Need-add-some-outputs Inv-loop μ-loop
+add-some-outputs c =
+    let pre = c .before .before .before .before .before .before .before .before .pre in
+    let args = c .before .before .before .before .before .before .before .before .args in
+    let outputs-per-group = c .before .before .before .before .outputs-per-group in
     let e = outputs-per-group .ensures in
-    let opg = outputs-per-group .result in
     let d = pre .0 .divided in
     let r = pre .0 .range in
     let end = rw (sym e) at (group-end d r (args .g) (pre .1)) in
-    (pre .0, group-fits d r (args .g) (opg / 8 * 8) opg (pre .1) e (omega arith), pre .2)
+    omega (arith, end, r .outs-high, c .before .before .loop-test .taken)
 
-mul-ones : tie.Need-mul-ones
-mul-ones c =
-    let pre = c .before .before .before .before .before .before .before .before .before .pre in
-    let args = c .before .before .before .before .before .before .before .before .before .args in
-    let outputs-per-group = c .before .before .before .before .before .outputs-per-group in
+some-outputs-requires : tie.Need-some-outputs-requires Inv-loop μ-loop
+some-outputs-requires c κs =
+    let pre = c .before .before .before .before .before .before .before .before .pre in
+    let args = c .before .before .before .before .before .before .before .before .args in
+    let outputs-per-group = c .before .before .before .before .outputs-per-group in
+    let loop = c .before .before .before .loop in
+    let loop-test = c .before .before .loop-test in
+    let lane = c .before .lane in
     let e = outputs-per-group .ensures in
-    let opg = outputs-per-group .result in
     let d = pre .0 .divided in
     let r = pre .0 .range in
     let end = rw (sym e) at (group-end d r (args .g) (pre .1)) in
-    omega (arith, end, r .outs-high)
+    let few = lane .ensures in (
+      pre .0,
+      stretch (loop .i) (lane .result) (group-fits d r (args .g) (outputs-per-group .result) (outputs-per-group .result) (pre .1) e (omega arith)) (omega (arith, few, loop-test .taken)),
+      omega (arith, few, loop-test .taken),
+      omega (arith, few),
+      λ o ho. omega (arith, loop .inv .1, pre .2 o ho),
+    )
 
-add-ones : tie.Need-add-ones
-add-ones c =
-    let pre = c .before .before .before .before .before .before .before .before .before .pre in
-    let args = c .before .before .before .before .before .before .before .before .before .args in
-    let outputs-per-group = c .before .before .before .before .before .outputs-per-group in
+add-i : tie.Need-add-i Inv-loop μ-loop
+add-i c =
+    let pre = c .before .before .before .before .before .before .before .before .before .before .before .pre in
+    let args = c .before .before .before .before .before .before .before .before .before .before .before .args in
+    let outputs-per-group = c .before .before .before .before .before .before .before .outputs-per-group in
+    let loop-test = c .before .before .before .before .before .loop-test in
+    let lane = c .before .before .before .before .lane in
     let e = outputs-per-group .ensures in
-    let opg = outputs-per-group .result in
     let d = pre .0 .divided in
     let r = pre .0 .range in
     let end = rw (sym e) at (group-end d r (args .g) (pre .1)) in
-    omega (arith, end, r .outs-high)
+    omega (arith, lane .ensures, loop-test .taken, end, r .outs-high)
 
-mul-ones-2 : tie.Need-mul-ones-2
-mul-ones-2 c =
-    let pre = c .before .before .before .before .before .before .before .before .before .pre in
-    let args = c .before .before .before .before .before .before .before .before .before .args in
-    let outputs-per-group = c .before .before .before .before .before .outputs-per-group in
-    let e = outputs-per-group .ensures in
-    let opg = outputs-per-group .result in
-    let d = pre .0 .divided in
-    let r = pre .0 .range in
-    let end = rw (sym e) at (group-end d r (args .g) (pre .1)) in
-    omega (arith, end, r .outs-high)
+loop-less : tie.Need-loop-less Inv-loop μ-loop
+loop-less c =
+    let loop-test = c .before .before .before .before .before .loop-test in
+    let lane = c .before .before .before .before .lane in
+    omega (arith, lane .ensures, loop-test .taken)
 
-sub-ones : tie.Need-sub-ones
-sub-ones c =
-    let pre = c .before .before .before .before .before .before .before .before .before .pre in
-    let args = c .before .before .before .before .before .before .before .before .before .args in
-    let outputs-per-group = c .before .before .before .before .before .outputs-per-group in
-    let e = outputs-per-group .ensures in
-    let opg = outputs-per-group .result in
-    let d = pre .0 .divided in
-    let r = pre .0 .range in
-    let end = rw (sym e) at (group-end d r (args .g) (pre .1)) in
-    omega (arith, end, r .outs-high)
+loop-again : tie.Need-loop-again Inv-loop μ-loop
+loop-again c =
+    let args = c .before .before .before .before .before .before .before .before .before .before .before .args in
+    let loop = c .before .before .before .before .before .before .loop in
+    let loop-test = c .before .before .before .before .before .loop-test in
+    let lane = c .before .before .before .before .lane in
+    let some-outputs = c .before .before .some-outputs in (
+      omega (arith, lane .ensures, loop-test .taken),
+      omega (arith, some-outputs .kept .0, loop .inv .1),
+      outputs-turn (args .sh) (args .weights .now) _ (args .work .now) (loop .work) _ _ _ _ (loop .i) (lane .result) (loop .inv .2) (some-outputs .ensures),
+    )
 
-ones-requires : tie.Need-ones-requires
-ones-requires c κs =
-    let pre = c .before .before .before .before .before .before .before .before .before .pre in
-    let args = c .before .before .before .before .before .before .before .before .before .args in
-    let outputs-per-group = c .before .before .before .before .before .outputs-per-group in
-    let eights = c .before .before .before .eights in
-    let e = outputs-per-group .ensures in
-    let opg = outputs-per-group .result in
-    let d = pre .0 .divided in
-    let r = pre .0 .range in
-    let end = rw (sym e) at (group-end d r (args .g) (pre .1)) in
-    (pre .0, stretch (opg / 8 * 8) (opg - opg / 8 * 8) (group-fits d r (args .g) opg opg (pre .1) e (omega arith)) (omega arith), λ o ho. omega (arith, eights .kept .0, pre .2 o ho))
-
-same-length : tie.Need-same-length
+same-length : tie.Need-same-length Inv-loop μ-loop
 same-length c = search needs
 
-returns : tie.Need-returns
+returns : tie.Need-returns Inv-loop μ-loop
 returns c =
-    let pre = c .before .before .before .before .before .before .before .before .before .before .before .before .pre in
-    let args = c .before .before .before .before .before .before .before .before .before .before .before .before .args in
-    let outputs-per-group = c .before .before .before .before .before .before .before .before .outputs-per-group in
-    let eights = c .before .before .before .before .before .before .eights in
-    let e = outputs-per-group .ensures in
-    let opg = outputs-per-group .result in
-    let d = pre .0 .divided in
-    let r = pre .0 .range in
-    let end = rw (sym e) at (group-end d r (args .g) (pre .1)) in
-    rw e at (both (args .sh) (args .weights .now) _ _ _ _ (args .out) (args .m) (args .g * opg) opg (opg / 8 * 8) (omega arith) (eights .ensures) (c .before .before .ones .ensures))
+    let outputs-per-group = c .before .before .outputs-per-group in
+    let loop = c .before .loop in
+    let all : loop .i ≡ outputs-per-group .result = omega (arith, loop .inv .0, c .loop-test .left) in
+    rw (outputs-per-group .ensures) at (rw all at (loop .inv .2))
 
 pub group-outputs-spec : {M : Type 1} → statement M
 group-outputs-spec =
     tie.close
     (tie.spec
+    Inv-loop
+    μ-loop
     outputs-per-group-requires
     mul-first
-    eights-requires
-    mul-ones
-    add-ones
-    mul-ones-2
-    sub-ones
-    ones-requires
+    loop-holds
+    sub-lane
+    lane-requires
+    add-some-outputs
+    some-outputs-requires
+    add-i
+    loop-less
+    loop-again
     same-length
     returns)

@@ -99,7 +99,7 @@ add-output-requires c κs =
     let h = pre .1 in
     let e = inputs-per-group .ensures in
     let column : c .back .result ≡ placeBack (args .ring .len) (args .ring .at) (stepsBack (args .sh) (loop .k)) = rw (sym (c .before .steps-back .ensures)) (c .back .ensures) in
-    let fit = outputs-fit f h e (loop .k) (c .back .result) (c .before .before .loop-test .taken) column in
+    let fit = outputs-fit f h e (loop .k) (c .back .result) (c .before .before .loop-test .taken) column 0 (omega arith) in
     record { values-in = fit .values-in; weights-in = λ i j hi hj. omega (arith, fit .weights-in 0 j (omega arith) hj, hi) }
 
 add-k : tie.Need-add-k Inv-loop μ-loop

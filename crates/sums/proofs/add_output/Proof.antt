@@ -21,34 +21,40 @@ loop-holds : tie.Need-loop-holds Inv-loop μ-loop
 loop-holds c = (search needs, sym (sum-none _ _))
 
 mul-r : tie.Need-mul-r Inv-loop μ-loop
-mul-r c = omega (arith, c .before .before .pre .weights-in 0 (c .before .loop .j) (omega arith) (c .loop-test .taken))
+mul-r c =
+    let pre = c .before .before .pre in
+    omega (arith, pre .values-in, pre .weights-in 0 (c .before .loop .j) (omega arith) (c .loop-test .taken))
 
 add-r : tie.Need-add-r Inv-loop μ-loop
-add-r c = omega (arith, c .before .before .pre .weights-in 0 (c .before .loop .j) (omega arith) (c .loop-test .taken))
+add-r c =
+    let pre = c .before .before .pre in
+    omega (arith, pre .values-in, pre .weights-in 0 (c .before .loop .j) (omega arith) (c .loop-test .taken))
 
 mul-r-2 : tie.Need-mul-r-2 Inv-loop μ-loop
-mul-r-2 c = omega (arith, c .before .before .pre .weights-in 0 (c .before .loop .j) (omega arith) (c .loop-test .taken))
+mul-r-2 c =
+    let pre = c .before .before .pre in
+    omega (arith, pre .values-in, pre .weights-in 0 (c .before .loop .j) (omega arith) (c .loop-test .taken))
 
 shared-slice-read-r : tie.Need-shared-slice-read-r Inv-loop μ-loop
 shared-slice-read-r c =
     let pre = c .before .before .before .pre in
-    omega (arith, pre .weights-in 0 (c .before .before .loop .j) (omega arith) (c .before .loop-test .taken))
+    omega (arith, pre .values-in, pre .weights-in 0 (c .before .before .loop .j) (omega arith) (c .before .loop-test .taken))
 
 add-r-2 : tie.Need-add-r-2 Inv-loop μ-loop
 add-r-2 c =
     let pre = c .before .before .before .pre in
-    omega (arith, pre .weights-in 0 (c .before .before .loop .j) (omega arith) (c .before .loop-test .taken))
+    omega (arith, pre .values-in, pre .weights-in 0 (c .before .before .loop .j) (omega arith) (c .before .loop-test .taken))
 
 mul-r-3 : tie.Need-mul-r-3 Inv-loop μ-loop
 mul-r-3 c =
     let pre = c .before .before .before .pre in
-    omega (arith, pre .weights-in 0 (c .before .before .loop .j) (omega arith) (c .before .loop-test .taken))
+    omega (arith, pre .values-in, pre .weights-in 0 (c .before .before .loop .j) (omega arith) (c .before .loop-test .taken))
 
 shared-slice-read-r-2 : tie.Need-shared-slice-read-r-2 Inv-loop μ-loop
 shared-slice-read-r-2 c =
     let pre = c .before .before .before .before .pre in
     let loop = c .before .before .before .loop in
-    omega (arith, pre .weights-in 0 (loop .j) (omega arith) (c .before .before .loop-test .taken))
+    omega (arith, pre .values-in, pre .weights-in 0 (loop .j) (omega arith) (c .before .before .loop-test .taken))
 
 add-j : tie.Need-add-j Inv-loop μ-loop
 add-j c = search needs

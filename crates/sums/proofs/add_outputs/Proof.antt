@@ -1,11 +1,11 @@
 -- `sums::add_outputs` meets its contract. After j inputs each lane has the sum of j products, by `lanes-more`. Assumes nothing.
 use mathlib.Core.Path.{_≡_, _∙_, ap}
-use Prim.Native.Nat.{ℕ, _+_, _*_, _-_, _≤_}
+use Prim.Native.Nat.{min, ℕ, _+_, _*_, _-_, _≤_}
 use native.Mathlib.Omega.{arith}
 use lib.ListN.{length}
 use lib.Ieee.{nan}
 use borrow.Author.Needs.{needs}
-use Rattle.lists.proofs.Tab.{tab-ext, length-tab}
+use Rattle.lists.proofs.Tab.{length-tab, tab-ext}
 use Rattle.sums.specs.Fits.{OutputsFit}
 use Rattle.sums.specs.Product.{product}
 use Rattle.sums.proofs.Lanes.{lanes-none, lanes-more}
@@ -15,12 +15,12 @@ use Rattle.sums.proofs.add_outputs.Statement.{statement}
 use Rattle.sums.proofs.add_outputs.Tie as tie
 
 abbrev Inv-loop : tie.InvT-loop
-Inv-loop values weights from w between step many r₀ j₀ r j =
-    (j ≤ many) × (length r ≡ 8) × OutputsFit (length values) (length weights) from w between step many 8
-    × (r ≡ tab 8 (λ i. sumFrom (at r₀ i) j (product weights (w + i * between) step (λ j. at values (from + j)))))
+Inv-loop values weights from w between last step many r₀ j₀ r j =
+    (j ≤ many) × (length r ≡ 8) × OutputsFit (length values) (length weights) from w between last step many
+    × (r ≡ tab 8 (λ i. sumFrom (at r₀ i) j (product weights (w + min i last * between) step (λ j. at values (from + j)))))
 
 abbrev μ-loop : tie.MeasureT-loop
-μ-loop values weights from w between step many r₀ j₀ r j = many - j
+μ-loop values weights from w between last step many r₀ j₀ r j = many - j
 
 loop-holds : tie.Need-loop-holds Inv-loop μ-loop
 loop-holds c = (search needs, search needs, c .before .before .pre, lanes-none 8 _ _ (search needs))
@@ -53,7 +53,7 @@ shared-slice-read-add-weights c =
 add-weights-requires : tie.Need-add-weights-requires Inv-loop μ-loop
 add-weights-requires c κs =
     let loop = c .before .before .loop in
-    λ i lt. omega (arith, loop .inv .2 .weights-in i (loop .j) lt (c .before .loop-test .taken))
+    λ i le. omega (arith, loop .inv .2 .weights-in i (loop .j) le (c .before .loop-test .taken))
 
 add-j : tie.Need-add-j Inv-loop μ-loop
 add-j c = search needs
@@ -70,7 +70,7 @@ loop-again c =
       search needs,
       ap length (c .add-weights .ensures) ∙ length-tab 8 _,
       loop .inv .2,
-      lanes-more 8 (loop .j) _ _ (loop .r) _ (loop .inv .3) (c .add-weights .ensures ∙ tab-ext nan 8 _ _ (λ i lt. rw (same i))),
+      lanes-more 8 (loop .j) _ _ (loop .r) _ (loop .inv .3) (c .add-weights .ensures ∙ tab-ext nan 8 _ _ (λ i lt. rw (same (min i (args .last))))),
     )
 
 returns : tie.Need-returns Inv-loop μ-loop

@@ -1,6 +1,6 @@
 -- `sums::add_weights` meets its contract. Each lane is stored once, out of what it held; filled whole, that is a table. Assumes nothing.
 use mathlib.Core.Path.{_≡_, sym, _∙_}
-use Prim.Native.Nat.{_+_, _*_, _-_, _≤_}
+use Prim.Native.Nat.{min, _+_, _*_, _-_, _≤_}
 use native.Mathlib.Omega.{arith}
 use lib.ListN.{length}
 use lib.Ieee.{nan, binary32, add, mul}
@@ -11,39 +11,53 @@ use Rattle.sums.proofs.add_weights.Statement.{statement}
 use Rattle.sums.proofs.add_weights.Tie as tie
 
 abbrev Inv-loop : tie.InvT-loop
-Inv-loop weights w between x r₀ i₀ r i =
-    (i ≤ 8) × (length r₀ ≡ 8) × (length r ≡ 8) × (r ≡ fill 0 i (λ i. add binary32 (at r₀ i) (mul binary32 (at weights (w + i * between)) x)) r₀)
+Inv-loop weights w between last x r₀ i₀ r i =
+    (i ≤ 8) × (length r₀ ≡ 8) × (length r ≡ 8)
+    × (r ≡ fill 0 i (λ i. add binary32 (at r₀ i) (mul binary32 (at weights (w + min i last * between)) x)) r₀)
 
 abbrev μ-loop : tie.MeasureT-loop
-μ-loop weights w between x r₀ i₀ r i = 8 - i
+μ-loop weights w between last x r₀ i₀ r i = 8 - i
 
 loop-holds : tie.Need-loop-holds Inv-loop μ-loop
 loop-holds c = (search needs, search needs, search needs, sym (fill-none _ _ _))
 
+lane-requires : tie.Need-lane-requires Inv-loop μ-loop
+lane-requires c κs = search needs
+
 mul-r : tie.Need-mul-r Inv-loop μ-loop
-mul-r c = omega (arith, c .before .before .pre (c .before .loop .i) (c .loop-test .taken))
+mul-r c =
+    let pre = c .before .before .before .before .pre in
+    omega (arith, pre (c .lane .result) (omega (arith, c .lane .ensures)))
 
 array-read-r : tie.Need-array-read-r Inv-loop μ-loop
 array-read-r c = search needs
 
 mul-r-2 : tie.Need-mul-r-2 Inv-loop μ-loop
-mul-r-2 c = omega (arith, c .before .before .pre (c .before .loop .i) (c .loop-test .taken))
+mul-r-2 c =
+    let pre = c .before .before .before .before .pre in
+    omega (arith, pre (c .lane .result) (omega (arith, c .lane .ensures)))
 
 add-r : tie.Need-add-r Inv-loop μ-loop
-add-r c = omega (arith, c .before .before .pre (c .before .loop .i) (c .loop-test .taken))
+add-r c =
+    let pre = c .before .before .before .before .pre in
+    omega (arith, pre (c .lane .result) (omega (arith, c .lane .ensures)))
 
 mul-r-3 : tie.Need-mul-r-3 Inv-loop μ-loop
-mul-r-3 c = omega (arith, c .before .before .pre (c .before .loop .i) (c .loop-test .taken))
+mul-r-3 c =
+    let pre = c .before .before .before .before .pre in
+    omega (arith, pre (c .lane .result) (omega (arith, c .lane .ensures)))
 
 shared-slice-read-r : tie.Need-shared-slice-read-r Inv-loop μ-loop
 shared-slice-read-r c =
-    let pre = c .before .before .before .pre in
-    omega (arith, pre (c .before .before .loop .i) (c .before .loop-test .taken))
+    let pre = c .before .before .before .before .before .pre in
+    let lane = c .before .lane in
+    omega (arith, pre (lane .result) (omega (arith, lane .ensures)))
 
 mul-r-4 : tie.Need-mul-r-4 Inv-loop μ-loop
 mul-r-4 c =
-    let pre = c .before .before .before .pre in
-    omega (arith, pre (c .before .before .loop .i) (c .before .loop-test .taken))
+    let pre = c .before .before .before .before .before .pre in
+    let lane = c .before .lane in
+    omega (arith, pre (lane .result) (omega (arith, lane .ensures)))
 
 array-write-r : tie.Need-array-write-r Inv-loop μ-loop
 array-write-r c = search needs
@@ -56,8 +70,12 @@ loop-less c = search needs
 
 loop-again : tie.Need-loop-again Inv-loop μ-loop
 loop-again c =
-    let loop = c .before .before .loop in
-    (search needs, search needs, search needs, fill-step _ _ _ _ _ (loop .inv .3) (rw (fill-apart nan _ _ (loop .i) _ _ _ (loop .inv .3) (omega arith))))
+    let loop = c .before .before .before .loop in (
+      search needs,
+      search needs,
+      search needs,
+      fill-step _ _ _ _ _ (loop .inv .3) (rw (fill-apart nan _ _ (loop .i) _ _ _ (loop .inv .3) (omega arith), c .before .lane .ensures)),
+    )
 
 returns : tie.Need-returns Inv-loop μ-loop
 returns c =
@@ -71,6 +89,7 @@ add-weights-spec =
     Inv-loop
     μ-loop
     loop-holds
+    lane-requires
     mul-r
     array-read-r
     mul-r-2

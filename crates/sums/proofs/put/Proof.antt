@@ -1,7 +1,6 @@
 -- `sums::put` meets its contract. One store more is one row of one place more. Assumes nothing.
 use mathlib.Core.Path.{_≡_, refl}
 use Prim.Native.Nat.{_-_, _≤_}
-use native.Mathlib.Nat.{mul-le-mul-right}
 use native.Mathlib.Omega.{arith}
 use lib.ListN.{length}
 use borrow.Author.Needs.{needs}
@@ -11,32 +10,42 @@ use Rattle.sums.proofs.put.Statement.{statement}
 use Rattle.sums.proofs.put.Tie as tie
 
 abbrev Inv-loop : tie.InvT-loop
-Inv-loop work₀ to stride sums i₀ work i =
-    (i ≤ 8) × (length work ≡ length work₀) × (work ≡ rows to stride 1 i (λ i t. at sums i) work₀)
+Inv-loop work₀ to stride n sums i₀ work i =
+    (i ≤ n) × (length work ≡ length work₀) × (work ≡ rows to stride 1 i (λ i t. at sums i) work₀)
 
 abbrev μ-loop : tie.MeasureT-loop
-μ-loop work₀ to stride sums i₀ work i = 8 - i
+μ-loop work₀ to stride n sums i₀ work i = n - i
 
 loop-holds : tie.Need-loop-holds Inv-loop μ-loop
 loop-holds c = (search needs, search needs, rows-none _ _ _ _ _)
 
 mul-work : tie.Need-mul-work Inv-loop μ-loop
-mul-work c = omega (arith, mul-le-mul-right {m = c .before .loop .i} {n = 7} (c .before .before .args .stride) (omega arith))
+mul-work c =
+    let loop = c .before .loop in
+    omega (arith, c .before .before .pre .1 (loop .i) (c .loop-test .taken), loop .inv .1)
 
 array-read-work : tie.Need-array-read-work Inv-loop μ-loop
-array-read-work c = search needs
+array-read-work c = omega (arith, c .before .before .pre .0, c .loop-test .taken)
 
 mul-work-2 : tie.Need-mul-work-2 Inv-loop μ-loop
-mul-work-2 c = omega (arith, mul-le-mul-right {m = c .before .loop .i} {n = 7} (c .before .before .args .stride) (omega arith))
+mul-work-2 c =
+    let loop = c .before .loop in
+    omega (arith, c .before .before .pre .1 (loop .i) (c .loop-test .taken), loop .inv .1)
 
 add-work : tie.Need-add-work Inv-loop μ-loop
-add-work c = omega (arith, mul-le-mul-right {m = c .before .loop .i} {n = 7} (c .before .before .args .stride) (omega arith))
+add-work c =
+    let loop = c .before .loop in
+    omega (arith, c .before .before .pre .1 (loop .i) (c .loop-test .taken), loop .inv .1)
 
 mul-work-3 : tie.Need-mul-work-3 Inv-loop μ-loop
-mul-work-3 c = omega (arith, mul-le-mul-right {m = c .before .loop .i} {n = 7} (c .before .before .args .stride) (omega arith))
+mul-work-3 c =
+    let loop = c .before .loop in
+    omega (arith, c .before .before .pre .1 (loop .i) (c .loop-test .taken), loop .inv .1)
 
 slice-write-work : tie.Need-slice-write-work Inv-loop μ-loop
-slice-write-work c = omega (arith, mul-le-mul-right {m = c .before .loop .i} {n = 7} (c .before .before .args .stride) (omega arith))
+slice-write-work c =
+    let loop = c .before .loop in
+    omega (arith, c .before .before .pre .1 (loop .i) (c .loop-test .taken), loop .inv .1)
 
 add-i : tie.Need-add-i Inv-loop μ-loop
 add-i c = search needs
@@ -53,7 +62,7 @@ same-length c = search needs
 returns : tie.Need-returns Inv-loop μ-loop
 returns c =
     let loop = c .before .loop in
-    let e : loop .i ≡ 8 = omega arith in rw e at (loop .inv .2)
+    let e : loop .i ≡ c .before .before .args .n = omega arith in rw e at (loop .inv .2)
 
 pub put-spec : {M : Type 1} → statement M
 put-spec =
