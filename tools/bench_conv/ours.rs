@@ -3,8 +3,28 @@
 #[link(name = "conv_call", kind = "static")]
 extern "C" {
     fn conv_block(
+<<<<<<< HEAD
         work: *mut f32, work_len: usize, history: *mut f32, history_len: usize, weights: *const f32, weights_len: usize, place: *mut usize,
         x: usize, out: usize, rows: usize, ins: usize, outs: usize, kernel: usize, dilation: usize, groups: usize, bias: u32, m: usize,
+=======
+        work: *mut f32,
+        work_len: usize,
+        history: *mut f32,
+        history_len: usize,
+        weights: *const f32,
+        weights_len: usize,
+        place: *mut usize,
+        x: usize,
+        out: usize,
+        rows: usize,
+        ins: usize,
+        outs: usize,
+        kernel: usize,
+        dilation: usize,
+        groups: usize,
+        bias: u32,
+        m: usize,
+>>>>>>> conv
     ) -> u32;
 }
 
@@ -55,8 +75,28 @@ impl Ours {
         // Safety: the slices are what their pointers and lengths say, and apart; the function tests every number.
         unsafe {
             conv_block(
+<<<<<<< HEAD
                 self.work.as_mut_ptr(), self.work.len(), self.history.as_mut_ptr(), self.history.len(), self.weights.as_ptr(), self.weights.len(),
                 &mut self.place, x, out, rows, s.ins, s.outs, s.kernel, s.dilation, s.groups, s.bias, m,
+=======
+                self.work.as_mut_ptr(),
+                self.work.len(),
+                self.history.as_mut_ptr(),
+                self.history.len(),
+                self.weights.as_ptr(),
+                self.weights.len(),
+                &mut self.place,
+                x,
+                out,
+                rows,
+                s.ins,
+                s.outs,
+                s.kernel,
+                s.dilation,
+                s.groups,
+                s.bias,
+                m,
+>>>>>>> conv
             )
         }
     }
