@@ -74,15 +74,11 @@ fn ratio(m: usize, ts: &[Times]) -> String {
     let sum = |f: fn(&Times) -> f64| ts.iter().map(f).sum::<f64>();
     let ours = sum(|t| t.ours);
     let one = sum(|t| t.theirs) / ours;
-<<<<<<< HEAD
-    if m == 1 { format!("{one:.2} ({:.2})", sum(|t| t.block) / ours) } else { format!("{one:.2}") }
-=======
     if m == 1 {
         format!("{one:.2} ({:.2})", sum(|t| t.block) / ours)
     } else {
         format!("{one:.2}")
     }
->>>>>>> conv
 }
 
 fn row(cells: impl IntoIterator<Item = String>) {
@@ -93,21 +89,13 @@ fn main() {
     let mut r = Random(0x2545_f491_4f6c_dd1d);
     let cases = 1500;
     same::check(&mut r, cases);
-<<<<<<< HEAD
-    println!("Before the timing: {cases} random shapes (groups 1 to 8, kernels 1 to 5, dilations 1 to 300, with and without bias; zeros of both signs,");
-=======
     println!(
         "Before the timing: {cases} random shapes (groups 1 to 8, kernels 1 to 5, dilations 1 to 300, with and without bias; zeros of both signs,"
     );
->>>>>>> conv
     println!("subnormals, infinities and NaN among the numbers), five blocks each of 1 to 1024 columns: outputs, histories and places equal to the");
     println!("original's bit for bit, NaN as one. As many calls with one wrong size were refused with nothing touched.\n");
     let dilations: Vec<usize> = (0..10).map(|i| 1 << i).collect();
     let all = [16, 32].map(|outs| (outs, measure_all(&mut r, outs, &dilations)));
-<<<<<<< HEAD
-    println!("Kernel 3, one group, with bias. Times are nanoseconds a column, the best of {} short runs of both taken in turns; a ratio is the", ROUNDS * RUNS);
-    println!("original's time / ours. Blocks of 1 are held against `process_sample` (in brackets: `process_block`), the others against `process_block`.\n");
-=======
     println!(
         "Kernel 3, one group, with bias. Times are nanoseconds a column, the best of {} short runs of both taken in turns; a ratio is the",
         ROUNDS * RUNS
@@ -115,7 +103,6 @@ fn main() {
     println!(
         "original's time / ours. Blocks of 1 are held against `process_sample` (in brackets: `process_block`), the others against `process_block`.\n"
     );
->>>>>>> conv
     println!("## Ratios\n");
     row(["channels", "block", "dilation 1", "dilation 32", "dilation 512", "1, 2, 4, .. 512 together"].map(String::from));
     row(["---"; 6].map(String::from));

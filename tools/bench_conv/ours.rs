@@ -3,10 +3,6 @@
 #[link(name = "conv_call", kind = "static")]
 extern "C" {
     fn conv_block(
-<<<<<<< HEAD
-        work: *mut f32, work_len: usize, history: *mut f32, history_len: usize, weights: *const f32, weights_len: usize, place: *mut usize,
-        x: usize, out: usize, rows: usize, ins: usize, outs: usize, kernel: usize, dilation: usize, groups: usize, bias: u32, m: usize,
-=======
         work: *mut f32,
         work_len: usize,
         history: *mut f32,
@@ -24,7 +20,6 @@ extern "C" {
         groups: usize,
         bias: u32,
         m: usize,
->>>>>>> conv
     ) -> u32;
 }
 
@@ -75,10 +70,6 @@ impl Ours {
         // Safety: the slices are what their pointers and lengths say, and apart; the function tests every number.
         unsafe {
             conv_block(
-<<<<<<< HEAD
-                self.work.as_mut_ptr(), self.work.len(), self.history.as_mut_ptr(), self.history.len(), self.weights.as_ptr(), self.weights.len(),
-                &mut self.place, x, out, rows, s.ins, s.outs, s.kernel, s.dilation, s.groups, s.bias, m,
-=======
                 self.work.as_mut_ptr(),
                 self.work.len(),
                 self.history.as_mut_ptr(),
@@ -96,7 +87,6 @@ impl Ours {
                 s.groups,
                 s.bias,
                 m,
->>>>>>> conv
             )
         }
     }

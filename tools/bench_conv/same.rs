@@ -6,15 +6,11 @@ use crate::random::Random;
 
 /// A pattern, with every NaN as 7fc00000.
 fn bits(x: f32) -> u32 {
-<<<<<<< HEAD
-    if x.is_nan() { 0x7fc0_0000 } else { x.to_bits() }
-=======
     if x.is_nan() {
         0x7fc0_0000
     } else {
         x.to_bits()
     }
->>>>>>> conv
 }
 
 /// The original's history and position are private; its Debug form has them, and Rust prints a float so that it reads back the same.
