@@ -21,37 +21,11 @@ use Rattle.description.specs.declared.parts.Part.the-variants.{Absent}
 use Rattle.description.specs.declared.places.Place.{Place}
 use Rattle.slot.specs.View.{memoryIn}
 use Rattle.slot.proofs.Trace.{memory-kept}
+use Rattle.layer.proofs.Places.{total-more, total-mono, total-le}
 use Rattle.array.specs.Stages.{partAt, firstPart, partCount, stageCount}
 use Rattle.array.proofs.Views.{parts-length}
 use Rattle.array.specs.Turn.{startOf, OutsideHistories, OutsidePositions}
 use Rattle.array.specs.Memories.{memoryOfPart, memoriesOf}
-
--- ---- sums of the first parts
-module _ (f : Part → ℕ) where
-  -- the first i parts and part i are the first i + 1
-  pub total-more : (ps : List Part) (i : ℕ) → i < length ps → total f (take i ps) + f (getD ps i Absent) ≡ total f (take (suc i) ps)
-  unfolding total
-  total-more [] i h = absurd (not-suc-le-zero h)
-  total-more (p ∷ ps) zero h = omega arith
-  total-more (p ∷ ps) (suc i) h = let e = total-more ps i (le-of-suc-le-suc h) in omega arith
-
-  -- more parts, more numbers
-  pub total-mono : (ps : List Part) (i j : ℕ) → i ≤ j → total f (take i ps) ≤ total f (take j ps)
-  unfolding total
-  total-mono [] zero zero h = omega arith
-  total-mono [] zero (suc j) h = omega arith
-  total-mono [] (suc i) zero h = omega arith
-  total-mono [] (suc i) (suc j) h = omega arith
-  total-mono (p ∷ ps) zero j h = omega arith
-  total-mono (p ∷ ps) (suc i) zero h = absurd (not-suc-le-zero h)
-  total-mono (p ∷ ps) (suc i) (suc j) h = let e = total-mono ps i j (le-of-suc-le-suc h) in omega arith
-
-  pub total-le : (ps : List Part) (i : ℕ) → total f (take i ps) ≤ total f ps
-  unfolding total
-  total-le [] zero = omega arith
-  total-le [] (suc i) = omega arith
-  total-le (p ∷ ps) zero = omega arith
-  total-le (p ∷ ps) (suc i) = let e = total-le ps i in omega arith
 
 -- ---- stages
 pub first-mono : (j k : ℕ) → j ≤ k → firstPart j ≤ firstPart k
