@@ -15,7 +15,7 @@ need() { # the packages that the quick checks are built with
 
 need gcc libmpfr-dev
 echo "== the example, held to what it should print"
-bash examples/play.sh | tail -n +2 >/tmp/cragnolief-play.$$ && diff examples/c/expected.txt /tmp/cragnolief-play.$$ && rm /tmp/cragnolief-play.$$
+bash examples/play.sh | tail -n +2 | diff examples/c/expected.txt -
 
 echo "== the proved exp and tanh against MPFR, a sample of patterns"
 bash tools/measure/run.sh 20011
