@@ -24,7 +24,7 @@ use Rattle.description.specs.Sizes.{historiesOf, positionsOf, total}
 use Rattle.array.specs.Stages.{Column, stageCount, next, out}
 use Rattle.array.specs.Memories.{memoriesOf, historiesFrom, positionsFrom}
 use Rattle.array.specs.Planar.{columnIn, columnsIn, blockOf}
-use Rattle.array.specs.Lent.{Lent}
+use Rattle.array.specs.Lent.{Lent, given, Given}
 use Rattle.array.specs.Calls.{noColumn, statesFrom, columnsFrom, brought, historiesPlayed, positionsPlayed, headPlayed, arrayPlayed}
 use Rattle.array.specs.Turn.{Changing, comes, past, standing}
 use Rattle.array.proofs.Views.{tab-join, histories-are, positions-are, histories-ext, positions-ext}
@@ -61,7 +61,7 @@ module _ {S A : Type 0} (none : A) (next : ℕ → S → A → S) (out : ℕ →
   listed-is f (suc n) = tab-more none f n ∙ ap (λ l. l ++ f n ∷ []) (listed-is f n)
 
 -- a column that has left the last stage
-out-there : (b : Lent) (n : ℕ) (e : Changing) (reach : ℕ → ℕ) (t : ℕ) → t < reach (stageCount (b .description)) → standing b n e reach .col t ≡ past b n e t
+out-there : (b : Given) (n : ℕ) (e : Changing) (reach : ℕ → ℕ) (t : ℕ) → t < reach (stageCount (b .description)) → standing b n e reach .col t ≡ past b n e t
 unfolding standing
 out-there b n e reach t h = rw (lt-ltb t (reach (stageCount (b .description))) h)
 
@@ -75,28 +75,28 @@ module _ (b : Lent) (n : ℕ) (e : Changing) (reach : ℕ → ℕ) where
   abbrev init : ℕ → List Memory
   init = memoriesOf (b .description) (b .histories) (b .positions)
 
-  brought-is : brought b n ≡ upTo nx ou init (comes b n) n
+  brought-is : brought b n ≡ upTo nx ou init (comes (given b) n) n
   unfolding brought columnsIn comes
-  brought-is = up-to-is noColumn nx ou init (comes b n) n
+  brought-is = up-to-is noColumn nx ou init (comes (given b) n) n
 
-  states-is : statesFrom b (brought b n) ≡ statesAt nx ou init (comes b n) n
+  states-is : statesFrom b (brought b n) ≡ statesAt nx ou init (comes (given b) n) n
   unfolding statesFrom
-  states-is = rw brought-is (states-are nx ou init (comes b n) n)
+  states-is = rw brought-is (states-are nx ou init (comes (given b) n) n)
 
-  columns-is : columnsFrom b (brought b n) ≡ tab n (columnAt nx ou init (comes b n) (stageCount (b .description)))
+  columns-is : columnsFrom b (brought b n) ≡ tab n (columnAt nx ou init (comes (given b) n) (stageCount (b .description)))
   unfolding columnsFrom
-  columns-is = rw brought-is (columns-are nx ou init (comes b n) (stageCount (b .description)) n ∙ sym (listed-is noColumn nx ou init (comes b n) _ n))
+  columns-is = rw brought-is (columns-are nx ou init (comes (given b) n) (stageCount (b .description)) n ∙ sym (listed-is noColumn nx ou init (comes (given b) n) _ n))
 
-  column-is : (t : ℕ) → t < n → getD (columnsFrom b (brought b n)) t noColumn ≡ columnAt nx ou init (comes b n) (stageCount (b .description)) t
+  column-is : (t : ℕ) → t < n → getD (columnsFrom b (brought b n)) t noColumn ≡ columnAt nx ou init (comes (given b) n) (stageCount (b .description)) t
   column-is t h = rw columns-is (at-tab noColumn n _ t h)
 
-  module _ (done : reach (stageCount (b .description)) ≡ n) (ended : Ended nx ou init (comes b n) (stageCount (b .description)) n (standing b n e reach)) where
+  module _ (done : reach (stageCount (b .description)) ≡ n) (ended : Ended nx ou init (comes (given b) n) (stageCount (b .description)) n (standing (given b) n e reach)) where
     -- the columns past all stages are what the output buffers hold
-    past-is : (t : ℕ) → t < n → past b n e t ≡ getD (columnsFrom b (brought b n)) t noColumn
+    past-is : (t : ℕ) → t < n → past (given b) n e t ≡ getD (columnsFrom b (brought b n)) t noColumn
     past-is t h = sym (all-past t h) ∙ ended .columns t h ∙ sym (column-is t h)
       where
-        all-past : (t : ℕ) → t < n → standing b n e reach .col t ≡ past b n e t
-        all-past t h = out-there b n e reach t (rw done h)
+        all-past : (t : ℕ) → t < n → standing (given b) n e reach .col t ≡ past (given b) n e t
+        all-past t h = out-there (given b) n e reach t (rw done h)
 
     pub array-is : length (e .array-out) ≡ arrayOf (b .description) .channels * n → e .array-out ≡ arrayPlayed b n
     unfolding arrayPlayed past

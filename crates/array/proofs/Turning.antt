@@ -17,7 +17,7 @@ use Rattle.description.specs.Parts.{partsOf}
 use Rattle.description.specs.Sizes.{historiesOf, total}
 use Rattle.array.specs.Stages.{Column, stageCount, next, out}
 use Rattle.array.specs.Memories.{memoriesOf}
-use Rattle.array.specs.Lent.{Lent}
+use Rattle.array.specs.Lent.{Given}
 use Rattle.array.specs.Turn.{Changing, comes, between, past, entering, leaving, standing, TurnDone}
 use Rattle.array.proofs.Places.{every-stage-kept}
 
@@ -32,7 +32,7 @@ run-ext nx ou k s a u v (suc c) h = rw (run-ext nx ou k s a u v c (λ i l. h i (
 abbrev pub moved : (ℕ → ℕ) → ℕ → ℕ → ℕ → ℕ
 moved reach k m j = cond (eqb j (suc k)) m (reach j)
 
-module _ (b : Lent) (n k from count : ℕ) (e e′ : Changing) (reach : ℕ → ℕ)
+module _ (b : Given) (n k from count : ℕ) (e e′ : Changing) (reach : ℕ → ℕ)
     (in-range : k < stageCount (b .description)) (order : (j : ℕ) → j < stageCount (b .description) → reach (suc j) ≤ reach j)
     (all : reach 0 ≡ n) (here : reach (suc k) ≡ from) (allowed : from + count ≤ reach k)
     (long : total historiesOf (partsOf (b .description)) ≤ length (e .histories)) (done : TurnDone b n k from count e e′) where

@@ -16,6 +16,17 @@ pub record Lent : Type 0 where
   pub array-out : List Float
   pub scratch : List Float
 
+-- those that are only read
+pub record Given : Type 0 where
+  pub description : List ℕ
+  pub weights : List Float
+  pub input : List Float
+  pub condition : List Float
+  pub head-in : List Float
+
+abbrev pub given : Lent → Given
+given b = record { description = b .description; weights = b .weights; input = b .input; condition = b .condition; head-in = b .head-in }
+
 -- the answer, and at exit the buffers that may be written
 pub record Left : Type 0 where
   pub answer : ℕ

@@ -18,7 +18,7 @@ use Rattle.description.specs.declared.places.Place.{Place}
 use Rattle.array.specs.Stages.{Column, firstPart, stageCount, next, out}
 use Rattle.array.specs.Memories.{memoriesOf}
 use Rattle.array.specs.Planar.{columnIn}
-use Rattle.array.specs.Lent.{Lent}
+use Rattle.array.specs.Lent.{Given}
 
 -- the buffers that turns change
 pub record Changing : Type 0 where
@@ -39,7 +39,7 @@ OutsideHistories d k i = Apart (startOf d k .histories) (startOf d (suc k) .hist
 abbrev pub OutsidePositions : List ℕ → ℕ → ℕ → Type 0
 OutsidePositions d k i = Apart (startOf d k .positions) (startOf d (suc k) .positions - startOf d k .positions) i 1
 
-module _ (b : Lent) (n : ℕ) where
+module _ (b : Given) (n : ℕ) where
   -- column t of a block of n that lies in scratch from a place on
   unfoldable pub columnAt : ℕ → ℕ → List Float → ℕ → List Float
   columnAt from w scratch t = tab w (λ c. at scratch (from + c * n + t))

@@ -1,16 +1,17 @@
 // Carries layer.rs: one layer over a block of columns. Document 01, 'The recurrence' (Layer).
 ghost use lib.ListN.{length};
 ghost use Rattle.layer.specs.Layered.{LayerFits, Layered};
+ghost use Rattle.layer.specs.Slots.{SlotsOf};
 
 pub mod pieces;
 pub mod sites;
 pub mod slots;
 
-use description::places::Place;
+use crate::slots::Slots;
 use description::records::ArrayRecord;
 use description::records::LayerRecord;
 
-// m columns through the layer whose numbers start at `start`. Of the regions of `size` numbers in `work`, 2 holds the input, 3 the condition and 4 the
+// m columns through the layer whose numbers lie at `slots`. Of the regions of `size` numbers in `work`, 2 holds the input, 3 the condition and 4 the
 // accumulator, which is added to; the answer says where the layer's output is.
 pub fn layer(
     work: &mut [f32],
@@ -19,15 +20,15 @@ pub fn layer(
     weights: &[f32],
     a: ArrayRecord,
     r: LayerRecord,
-    start: Place,
+    slots: Slots,
     size: usize,
     m: usize,
 ) -> usize
-    requires { ⌜ LayerFits a r start size m (length (now work)) (now histories) (now positions) (now weights) ⌝ }
-    ensures { λ result. ⌜ Layered a r start (now (weights .entry)) size m result (now (work .entry)) (now (histories .entry)) (now (positions .entry))
+    requires { ⌜ LayerFits a r (slots .conv) size m (length (now work)) (now histories) (now positions) (now weights) ⌝ }
+    requires { ⌜ SlotsOf a r slots ⌝ }
+    ensures { λ result. ⌜ Layered a r (slots .conv) (now (weights .entry)) size m result (now (work .entry)) (now (histories .entry)) (now (positions .entry))
         (now (work .exit)) (now (histories .exit)) (now (positions .exit)) ⌝ }
 {
-    let slots = slots::slots_from(a, r, start);
     pieces::front(work, histories, positions, weights, a, r, slots, size, m);
     pieces::mixer(work, histories, positions, weights, a, r, slots, size, m);
     pieces::gate(work, histories, positions, weights, a, r, slots, size, m);
