@@ -4,3 +4,6 @@ pub mod Single
 pub mod Placing
 pub mod Entry
 pub mod Exit
+pub mod Twelve
+pub mod Copying
+pub mod Middle
