@@ -6,4 +6,5 @@ pub mod Entry
 pub mod Exit
 pub mod Twelve
 pub mod Copying
-pub mod Middle
+pub mod Through
+pub mod Fitting

@@ -2,4 +2,5 @@
 pub mod copies;
 pub mod first;
 pub mod last;
+pub mod middle;
 pub mod span;

@@ -56,7 +56,7 @@ module _ (d : List ℕ) (l : ℕ) (in-range : l < layerCount d) where
   abbrev start : Place
   start = placeAt d (1 + 12 * l)
 
-  slot-is : (k : ℕ) → k < 12 → getD (partsOf d) (1 + 12 * l + k) Absent ≡ partOf a r k
+  pub slot-is : (k : ℕ) → k < 12 → getD (partsOf d) (1 + 12 * l + k) Absent ≡ partOf a r k
   slot-is k h = let e : 1 + 12 * l + k ≡ 1 + (12 * l + k) = omega arith in rw e (part-slot d l k in-range h)
 
   pub slot-place : (k : ℕ) → k ≤ 12 → placeAt d (1 + 12 * l + k) ≡ slotPlace a r start k
@@ -261,5 +261,5 @@ module _ (d : List ℕ) (l : ℕ) (in-range : l < layerCount d) {weights : List 
       let p : slotPlace (arrayOf d) (layerOf d l) (placeAt d (1 + 12 * l)) k ≡ placeAt d i = sym (slot-place d l in-range k (omega (arith, lt))) ∙ ap (placeAt d) e in
       rw p at q
 
-  layer-turn-is : LayerTurn d weights span h0 p0 w0 h1 p1 w3 l condition
+  pub layer-turn-is : LayerTurn d weights span h0 p0 w0 h1 p1 w3 l condition
   layer-turn-is = record { by = done; places = placed-on d (suc l) (fits .places) (done [] [] [] [] .positions-kept) own }
