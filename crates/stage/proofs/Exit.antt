@@ -224,16 +224,19 @@ pub exit-turn : {d : List ℕ} {weights : List Float} {span : Span} {start : Pla
     → Played sh start weights (span .count) (3 * span .size) (4 * span .size) (5 * span .size) w1 h0 p0 w2 h1 p1
     → head1 ≡ rows (span .from) (span .n) (span .count) (a .«head_size») (λ c t. at w2 (4 * span .size + c * span .count + t)) head0
     → array1 ≡ rows (span .from) (span .n) (span .count) (a .channels) (λ c t. at w2 (span .from + c * span .n + t)) array0
-    → LastTurn d weights span h0 p0 w0 h1 p1 w2 head0 array0 head1 array1
+    → (pastOf start (There sh) ≡ startOf d (suc (suc (layerCount d)))) × LastTurn d weights span h0 p0 w0 h1 p1 w2 head0 array0 head1 array1
 exit-turn {d} {weights} {span} {start} {h0} {h1} w0 w1 w2 head0 array0 head1 array1 {p0} {p1} {sh} a e fits head-long array-long =
     subst (λ (a : ArrayRecord). headRechannelOf a ≡ There sh
     → w1 ≡ rows (3 * span .size) (span .count) (span .count) (a .«head_in») (λ c t. at w0 (span .size + span .from + c * span .n + t)) w0
     → Played sh start weights (span .count) (3 * span .size) (4 * span .size) (5 * span .size) w1 h0 p0 w2 h1 p1
     → head1 ≡ rows (span .from) (span .n) (span .count) (a .«head_size») (λ c t. at w2 (4 * span .size + c * span .count + t)) head0
     → array1 ≡ rows (span .from) (span .n) (span .count) (a .channels) (λ c t. at w2 (span .from + c * span .n + t)) array0
-    → LastTurn d weights span h0 p0 w0 h1 p1 w2 head0 array0 head1 array1)
+    → (pastOf start (There sh) ≡ startOf d (suc (suc (layerCount d)))) × LastTurn d weights span h0 p0 w0 h1 p1 w2 head0 array0 head1 array1)
     (sym e)
-    (λ is s1 s2 s3 s4. last-is w0 w1 w2 head0 array0 head1 array1 fits is head-long array-long s1 s2 s3 s4)
+    (λ is s1 s2 s3 s4. (
+      sym (last-next w0 w1 w2 head0 array0 head1 array1 fits is head-long array-long s1 s2 s3 s4),
+      last-is w0 w1 w2 head0 array0 head1 array1 fits is head-long array-long s1 s2 s3 s4,
+    ))
 
 -- the head rechannel as a part, and its widths
 pub head-part : (d : List ℕ) {a : ArrayRecord} {sh : Shape} → a ≡ arrayOf d → headRechannelOf a ≡ There sh → getD (partsOf d) (firstPart (suc (layerCount d))) Absent ≡ There sh

@@ -8,3 +8,4 @@ pub mod Twelve
 pub mod Copying
 pub mod Through
 pub mod Fitting
+pub mod Turning

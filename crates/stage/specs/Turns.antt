@@ -9,6 +9,7 @@ use Rattle.shape.specs.declared.Shape.{Shape}
 use Rattle.shape.specs.Counts.{ringLength}
 use Rattle.description.specs.Numbers.{layerCount}
 use Rattle.description.specs.Parts.{partsOf}
+use Rattle.description.specs.Records.{arrayOf}
 use Rattle.description.specs.Refusals.{refusalOf}
 use Rattle.description.specs.Sizes.{weightsOf, historiesOf, positionsOf, total, placeAt, widestOf}
 use Rattle.description.specs.declared.parts.Part.the-variants.{Absent, There}
@@ -36,6 +37,14 @@ pub record StageFits (d : List ℕ) (span : Span) (k : ℕ) (start : Place) (nwe
   pub scratch-is : nscratch ≡ 16 * span .size
   pub places : Placed d positions
   pub start-is : start ≡ startOf d k
+
+-- the blocks of n columns are as long as they should be
+pub record Blocks (d : List ℕ) (n : ℕ) (input condition headIn headOut arrayOut : List Float) : Type 0 where
+  pub input-is : length input ≡ arrayOf d .input * n
+  pub condition-is : length condition ≡ arrayOf d .condition * n
+  pub head-in-is : length headIn ≡ arrayOf d .«head_in» * n
+  pub head-out-is : length headOut ≡ arrayOf d .«head_size» * n
+  pub array-out-is : length arrayOut ≡ arrayOf d .channels * n
 
 -- the buffers as a turn knows them
 abbrev pub givenOf : List ℕ → List Float → List Float → List Float → List Float → Given
