@@ -1,0 +1,3 @@
+pub mod Below
+pub mod Fitting
+pub mod Sized
