@@ -1,3 +1,6 @@
 pub mod Below
 pub mod Fitting
 pub mod Sized
+pub mod Outputs
+pub mod Steps
+pub mod Demand3
