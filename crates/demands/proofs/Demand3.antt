@@ -1,1 +1,78 @@
--- d
+-- Demand 3: however columns are cut into calls, with refused calls among them, the outputs, histories and positions are those of the recurrence over all
+-- the columns joined, one at a time. Document 01, 'What the contracts have to say'. Assumes nothing.
+use mathlib.Core.Path.{_≡_, sym, _∙_, ap}
+use mathlib.Core.List.{List}
+use Prim.Native.Nat.{ℕ}
+use lib.ListN.{length}
+use lib.Ieee.{Float}
+use borrow.Author.Tests.{ne-eqb}
+use Rattle.ring.specs.Memory.{Memory}
+use Rattle.description.specs.Parts.{partsOf}
+use Rattle.description.specs.Sizes.{historiesOf, positionsOf, total}
+use Rattle.reset.specs.Resets.{Resets}
+use Rattle.turns.specs.Grid.{statesAfter, columnsAfter}
+use Rattle.array.specs.Stages.{Column, stageCount, next, out}
+use Rattle.array.specs.Memories.{memoriesOf, historiesFrom, positionsFrom}
+use Rattle.array.proofs.Views.{histories-are, positions-are}
+use Rattle.demands.specs.Calls.{Call, Meets, refusalFor, played, given, Sequence, PlaysAs}
+use Rattle.demands.specs.Silence.{silence}
+use Rattle.demands.proofs.Sized.{memories-sized}
+use Rattle.demands.proofs.Steps.{plays-from}
+use Rattle.demands.proofs.Silence.{reset-histories, reset-positions, from-reset}
+
+module _ (d : List ℕ) (w : List Float) (histories histories′ : List Float) (positions positions′ : List ℕ) where
+  -- from any histories and positions that are as long as the description asks
+  pub joined : (calls : List Call) → length histories ≡ total historiesOf (partsOf d) → length positions ≡ total positionsOf (partsOf d)
+      → Sequence d w histories positions calls histories′ positions′ → PlaysAs d w (memoriesOf d histories positions) calls histories′ positions′
+  joined calls h p s =
+      plays-from d w calls (memoriesOf d histories positions) histories histories′ positions positions′ (memories-sized d histories positions h)
+      (sym (histories-are d histories positions h)) (sym (positions-are d histories positions p)) s
+
+  module _ {old : List Float} {old-positions : List ℕ} {r : ℕ} (reset : Resets d old old-positions r histories positions) (ok : r ≡ 0) where
+    -- from a reset
+    pub joined-from-reset : (calls : List Call) → Sequence d w histories positions calls histories′ positions′
+        → PlaysAs d w (memoriesOf d histories positions) calls histories′ positions′
+    joined-from-reset calls s = joined calls (reset-histories reset ok) (reset-positions reset ok) s
+
+    -- which is stages that have heard nothing
+    pub joined-from-silence : (calls : List Call) → Sequence d w histories positions calls histories′ positions′ → PlaysAs d w (silence d) calls histories′ positions′
+    joined-from-silence calls s = rw (from-reset reset ok) at (joined-from-reset calls s)
+
+-- two ways to cut the same columns into calls come to the same
+pub record SameEnd (calls calls′ : List Call) (histories histories′ : List Float) (positions positions′ : List ℕ) : Type 0 where
+  pub histories-same : histories ≡ histories′
+  pub positions-same : positions ≡ positions′
+  pub columns-same : given calls ≡ given calls′
+
+pub however-cut : (d : List ℕ) (w : List Float) (histories : List Float) (positions : List ℕ) → length histories ≡ total historiesOf (partsOf d)
+    → length positions ≡ total positionsOf (partsOf d) → (calls calls′ : List Call) (histories′ histories″ : List Float) (positions′ positions″ : List ℕ)
+    → Sequence d w histories positions calls histories′ positions′ → Sequence d w histories positions calls′ histories″ positions″
+    → played calls ≡ played calls′ → SameEnd calls calls′ histories′ histories″ positions′ positions″
+however-cut d w histories positions h p calls calls′ histories′ histories″ positions′ positions″ s t e =
+    let a = joined d w histories histories′ positions positions′ calls h p s in
+    let b = joined d w histories histories″ positions positions″ calls′ h p t in
+    let st = memoriesOf d histories positions in
+    record {
+      histories-same = a .histories ∙ ap (λ (vs : List Column). historiesFrom d (statesAfter (next d w) (out d w) st vs)) e ∙ sym (b .histories);
+      positions-same = a .positions ∙ ap (λ (vs : List Column). positionsFrom d (statesAfter (next d w) (out d w) st vs)) e ∙ sym (b .positions);
+      columns-same = a .columns ∙ ap (λ (vs : List Column). columnsAfter (next d w) (out d w) (stageCount d) st vs) e ∙ sym (b .columns);
+    }
+
+-- a refused call leaves every buffer as it was
+pub record Untouched (c : Call) : Type 0 where
+  pub histories-kept : c .left .histories ≡ c .lent .histories
+  pub positions-kept : c .left .positions ≡ c .lent .positions
+  pub head-out-kept : c .left .head-out ≡ c .lent .head-out
+  pub array-out-kept : c .left .array-out ≡ c .lent .array-out
+  pub scratch-kept : c .left .scratch ≡ c .lent .scratch
+
+pub nothing-changed : (c : Call) → Meets c → (c .left .answer ≡ 0 → ⊥) → Untouched c
+nothing-changed c m ne =
+    let refused = ne-eqb (refusalFor (c .kind) (c .lent)) 0 (λ e. ne (m .answer ∙ e)) in
+    record {
+      histories-kept = rw refused at (m .histories);
+      positions-kept = rw refused at (m .positions);
+      head-out-kept = rw refused at (m .head-out);
+      array-out-kept = rw refused at (m .array-out);
+      scratch-kept = rw refused at (m .scratch);
+    }

@@ -3,4 +3,5 @@ pub mod Fitting
 pub mod Sized
 pub mod Outputs
 pub mod Steps
+pub mod Silence
 pub mod Demand3
