@@ -5,3 +5,4 @@ pub mod Outputs
 pub mod Steps
 pub mod Silence
 pub mod Demand3
+pub mod Bench

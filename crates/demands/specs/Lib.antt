@@ -1,2 +1,4 @@
 pub mod Calls
 pub mod Silence
+pub mod CaseA
+pub mod Bench
