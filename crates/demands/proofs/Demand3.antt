@@ -15,6 +15,7 @@ use Rattle.array.specs.Stages.{Column, stageCount, next, out}
 use Rattle.array.specs.Memories.{memoriesOf, historiesFrom, positionsFrom}
 use Rattle.array.proofs.Views.{histories-are, positions-are}
 use Rattle.demands.specs.Calls.{Call, Meets, refusalFor, played, given, Sequence, PlaysAs}
+use Rattle.demands.specs.Results.{SameEnd, Unchanged}
 use Rattle.demands.specs.Silence.{silence}
 use Rattle.demands.proofs.Sized.{memories-sized}
 use Rattle.demands.proofs.Steps.{plays-from}
@@ -39,11 +40,6 @@ module _ (d : List ℕ) (w : List Float) (histories histories′ : List Float) (
     joined-from-silence calls s = rw (from-reset reset ok) at (joined-from-reset calls s)
 
 -- two ways to cut the same columns into calls come to the same
-pub record SameEnd (calls calls′ : List Call) (histories histories′ : List Float) (positions positions′ : List ℕ) : Type 0 where
-  pub histories-same : histories ≡ histories′
-  pub positions-same : positions ≡ positions′
-  pub columns-same : given calls ≡ given calls′
-
 pub however-cut : (d : List ℕ) (w : List Float) (histories : List Float) (positions : List ℕ) → length histories ≡ total historiesOf (partsOf d)
     → length positions ≡ total positionsOf (partsOf d) → (calls calls′ : List Call) (histories′ histories″ : List Float) (positions′ positions″ : List ℕ)
     → Sequence d w histories positions calls histories′ positions′ → Sequence d w histories positions calls′ histories″ positions″
@@ -58,21 +54,15 @@ however-cut d w histories positions h p calls calls′ histories′ histories″
       columns-same = a .columns ∙ ap (λ (vs : List Column). columnsAfter (next d w) (out d w) (stageCount d) st vs) e ∙ sym (b .columns);
     }
 
--- a refused call leaves every buffer as it was
-pub record Untouched (c : Call) : Type 0 where
-  pub histories-kept : c .left .histories ≡ c .lent .histories
-  pub positions-kept : c .left .positions ≡ c .lent .positions
-  pub head-out-kept : c .left .head-out ≡ c .lent .head-out
-  pub array-out-kept : c .left .array-out ≡ c .lent .array-out
-  pub scratch-kept : c .left .scratch ≡ c .lent .scratch
-
-pub nothing-changed : (c : Call) → Meets c → (c .left .answer ≡ 0 → ⊥) → Untouched c
+-- a refused call leaves every buffer as it was, scratch too
+pub nothing-changed : (c : Call) → Meets c → (c .left .answer ≡ 0 → ⊥) → Unchanged c × (c .left .scratch ≡ c .lent .scratch)
 nothing-changed c m ne =
-    let refused = ne-eqb (refusalFor (c .kind) (c .lent)) 0 (λ e. ne (m .answer ∙ e)) in
-    record {
-      histories-kept = rw refused at (m .histories);
-      positions-kept = rw refused at (m .positions);
-      head-out-kept = rw refused at (m .head-out);
-      array-out-kept = rw refused at (m .array-out);
-      scratch-kept = rw refused at (m .scratch);
-    }
+    let refused = ne-eqb (refusalFor (c .kind) (c .lent)) 0 (λ e. ne (m .answer ∙ e)) in (
+      record {
+        histories-kept = rw refused at (m .histories);
+        positions-kept = rw refused at (m .positions);
+        head-out-kept = rw refused at (m .head-out);
+        array-out-kept = rw refused at (m .array-out);
+      },
+      rw refused at (m .scratch),
+    )

@@ -4,5 +4,6 @@ pub mod Sized
 pub mod Outputs
 pub mod Steps
 pub mod Silence
+pub mod Accepted
 pub mod Demand3
 pub mod Bench
