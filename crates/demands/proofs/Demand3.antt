@@ -1,23 +1,25 @@
 -- Demand 3: however columns are cut into calls, with refused calls among them, the outputs, histories and positions are those of the recurrence over all
 -- the columns joined, one at a time. Document 01, 'What the contracts have to say'. Assumes nothing.
-use mathlib.Core.Path.{_≡_, sym, _∙_, ap}
-use mathlib.Core.List.{List}
+use mathlib.Core.Path.{_≡_, refl, sym, _∙_, ap}
+use mathlib.Core.Bool.{Bool, cond}
+use mathlib.Core.List.{List, [], _∷_, _++_}
 use Prim.Native.Nat.{ℕ}
 use lib.ListN.{length}
 use lib.Ieee.{Float}
 use borrow.Author.Tests.{ne-eqb}
-use Rattle.ring.specs.Memory.{Memory}
 use Rattle.description.specs.Parts.{partsOf}
 use Rattle.description.specs.Sizes.{historiesOf, positionsOf, total}
 use Rattle.reset.specs.Resets.{Resets}
 use Rattle.turns.specs.Grid.{statesAfter, columnsAfter}
 use Rattle.array.specs.Stages.{Column, stageCount, next, out}
 use Rattle.array.specs.Memories.{memoriesOf, historiesFrom, positionsFrom}
+use Rattle.array.specs.Calls.{brought}
 use Rattle.array.proofs.Views.{histories-are, positions-are}
-use Rattle.demands.specs.Calls.{Call, Meets, refusalFor, played, given, Sequence, PlaysAs}
-use Rattle.demands.specs.Results.{SameEnd, Unchanged}
+use Rattle.demands.specs.Calls.{Call, Meets, countOf, refusalFor, handed, ifAccepted, played, given, Follows, Sequence, PlaysAs}
+use Rattle.demands.specs.Results.{SameEnd, Unchanged, NothingPlayed}
 use Rattle.demands.specs.Silence.{silence}
 use Rattle.demands.proofs.Sized.{memories-sized}
+use Rattle.demands.proofs.Accepted.{accepted-lengths}
 use Rattle.demands.proofs.Steps.{plays-from}
 use Rattle.demands.proofs.Silence.{reset-histories, reset-positions, from-reset}
 
@@ -66,3 +68,38 @@ nothing-changed c m ne =
       },
       rw refused at (m .scratch),
     )
+
+-- ---- histories or positions that are not as long as the description asks: no call is accepted
+abbrev Unfit : List ℕ → List Float → List ℕ → Type 0
+Unfit d histories positions = length histories ≡ total historiesOf (partsOf d) → length positions ≡ total positionsOf (partsOf d) → ⊥
+
+module _ (d : List ℕ) (w : List Float) where
+  always-refused : (histories : List Float) (positions : List ℕ) (c : Call) → Unfit d histories positions → Follows d w histories positions c → c .left .answer ≡ 0 → ⊥
+  always-refused histories positions c unfit f ok =
+      let long = accepted-lengths (c .kind) (c .lent) (sym (f .meets .answer) ∙ ok) in
+      unfit
+      (ap length (sym (f .histories-are)) ∙ long .histories-long ∙ ap (λ (d : List ℕ). total historiesOf (partsOf d)) (f .description-is))
+      (ap length (sym (f .positions-are)) ∙ long .positions-long ∙ ap (λ (d : List ℕ). total positionsOf (partsOf d)) (f .description-is))
+
+  none-by : (c : Call) → (c .left .answer ≡ 0 → ⊥) → (columns : List Column) → ifAccepted c columns ≡ []
+  none-by c ne columns = ap (λ (b : Bool). cond b columns []) (ne-eqb (c .left .answer) 0 ne)
+
+  pub unfit-plays-nothing : (calls : List Call) (histories histories′ : List Float) (positions positions′ : List ℕ) → Unfit d histories positions
+      → Sequence d w histories positions calls histories′ positions′ → NothingPlayed calls histories histories′ positions positions′
+  unfolding Sequence played given
+  unfit-plays-nothing [] histories histories′ positions positions′ unfit s =
+      record { histories-kept = s .0; positions-kept = s .1; none-played = refl; none-given = refl }
+  unfit-plays-nothing (c ∷ cs) histories histories′ positions positions′ unfit s =
+      let f = s .0 in
+      let ne = always-refused histories positions c unfit f in
+      let same = nothing-changed c (f .meets) ne .0 in
+      let h : c .left .histories ≡ histories = same .histories-kept ∙ f .histories-are in
+      let p : c .left .positions ≡ positions = same .positions-kept ∙ f .positions-are in
+      let later = unfit-plays-nothing cs (c .left .histories) histories′ (c .left .positions) positions′
+      (λ x y. unfit (ap length (sym h) ∙ x) (ap length (sym p) ∙ y)) (s .1) in
+      record {
+        histories-kept = later .histories-kept ∙ h;
+        positions-kept = later .positions-kept ∙ p;
+        none-played = ap (λ (l : List Column). l ++ played cs) (none-by c ne (brought (c .lent) (countOf (c .kind)))) ∙ later .none-played;
+        none-given = ap (λ (l : List Column). l ++ given cs) (none-by c ne (handed c)) ∙ later .none-given;
+      }

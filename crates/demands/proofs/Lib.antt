@@ -5,5 +5,8 @@ pub mod Outputs
 pub mod Steps
 pub mod Silence
 pub mod Accepted
+pub mod Agree
+pub mod Demand1
+pub mod Demand2
 pub mod Demand3
 pub mod Bench

@@ -1,7 +1,7 @@
 -- The columns that an accepted call hands out, read from its output buffers, are the recurrence's columns. Assumes nothing.
 use mathlib.Core.Path.{_≡_, refl, sym, _∙_, ap}
 use mathlib.Core.Bool.{Bool, true, false, cond}
-use mathlib.Core.List.{List, [], _∷_}
+use mathlib.Core.List.{List}
 use Prim.Native.Nat.{ℕ, zero, suc, _+_, _*_, _/_, _%_, _<_}
 use native.Mathlib.Omega.{arith}
 use lib.Dec.{ltb}
@@ -12,7 +12,7 @@ use Rattle.lists.specs.Tab.{at, tab}
 use Rattle.lists.proofs.Nums.{cell-lt, cell-div, cell-mod}
 use Rattle.lists.proofs.Tab.{length-tab, at-tab, is-tab}
 use Rattle.ring.specs.Memory.{Memory}
-use Rattle.turns.specs.Grid.{through, columnsAfter}
+use Rattle.turns.specs.Grid.{through}
 use Rattle.description.specs.Numbers.{layerCount}
 use Rattle.description.specs.Records.{arrayOf}
 use Rattle.array.specs.Stages.{Column, stageCount, next, out, rechannelled, layered, headed}

@@ -1,7 +1,7 @@
 -- A reset leaves what stages that have heard nothing remember. Assumes nothing.
 use mathlib.Core.Path.{_≡_, refl, sym, _∙_, ap, fun-ext}
-use mathlib.Core.List.{List, [], _∷_, _++_}
-use Prim.Native.Nat.{ℕ, zero, suc, _+_, _-_, _≤_, _<_}
+use mathlib.Core.List.{List, [], _∷_}
+use Prim.Native.Nat.{ℕ, zero, suc, _+_, _-_, _≤_}
 use native.Mathlib.Nat.{zero-add}
 use native.Mathlib.Omega.{arith}
 use lib.ListN.{length, getD, take, replicate, length-append, length-replicate, getD-replicate}
@@ -9,10 +9,8 @@ use lib.Seq.{ext-getD}
 use lib.Ieee.{Float, binary32, ofBits, nan}
 use borrow.Author.Tests.{eq-eqb}
 use Rattle.lists.specs.Part.{part}
-use Rattle.lists.specs.Tab.{tab}
 use Rattle.lists.proofs.Parts.{length-part, at-part}
 use Rattle.lists.proofs.Tab.{tab-ext}
-use Rattle.ring.specs.Memory.{Memory}
 use Rattle.shape.specs.Counts.{ringLength, historyCount}
 use Rattle.shape.specs.declared.Shape.{Shape}
 use Rattle.description.specs.Parts.{partsOf}

@@ -3,16 +3,13 @@
 use mathlib.Core.Path.{_≡_, refl, sym, _∙_, ap}
 use mathlib.Core.Bool.{Bool, true, false, cond}
 use mathlib.Core.List.{List, [], _∷_, _++_}
-use mathlib.Core.Logic.{⊎-elim}
 use Prim.Native.Nat.{ℕ, zero, suc, _+_, _*_, _≤_, _<_}
 use native.Mathlib.Omega.{arith}
 use lib.Dec.{ltb}
-use lib.ListN.{length, getD, length-append}
+use lib.ListN.{length, getD}
 use lib.Ieee.{Float}
 use borrow.Author.Tests.{lt-ltb, le-ltb}
 use Rattle.lists.specs.Tab.{tab, at}
-use Rattle.lists.specs.Part.{part}
-use Rattle.lists.proofs.Nums.{le-or-lt}
 use Rattle.lists.proofs.Tab.{length-tab, at-tab, is-tab}
 use Rattle.lists.proofs.Fill.{length-fill}
 use Rattle.lists.proofs.Parts.{length-part}
@@ -22,7 +19,7 @@ use Rattle.turns.specs.Grid.{statesAfter}
 use Rattle.description.specs.Numbers.{layerCount}
 use Rattle.description.specs.Records.{arrayOf, layerOf}
 use Rattle.description.specs.Parts.{eachLayer, slotsOf, partsTo, partsOf, rechannelOf, headRechannelOf, siteOf}
-use Rattle.description.specs.Sizes.{historiesOf, positionsOf, total, placeOf, placeAt}
+use Rattle.description.specs.Sizes.{historiesOf, total, placeOf, placeAt}
 use Rattle.description.specs.declared.records.ArrayRecord.{ArrayRecord}
 use Rattle.description.specs.declared.records.LayerRecord.{LayerRecord}
 use Rattle.description.specs.declared.parts.Part.{Part}
@@ -164,20 +161,43 @@ module _ (a : ArrayRecord) (r : LayerRecord) (weights : ℕ → List Float) (x c
   unfolding AllFit slotsOf column.after conv′ mixin′ layer1x1′ head1x1′
   after-fits s fit =
       let f : (j : ℕ) → j < 12 → Fits (getD (slotsOf a r) j Absent) (memoryAt s j) = λ j l. fit-at (slotsOf a r) s fit j l in
-      let g : (i : ℕ) → Fits (siteOf a r i) (memoryAt s (4 + i)) → Fits (siteOf a r i) (site′ a r weights (memoryAt s) x condition i) = site-fits (memoryAt s) in
-      (pushed-fits _ _ _ (f 0 (omega arith)),
-      (pushed-fits _ _ _ (f 1 (omega arith)),
-      (pushed-fits _ _ _ (f 2 (omega arith)),
-      (pushed-fits _ _ _ (f 3 (omega arith)),
-      (g 0 (f 4 (omega arith)),
-      (g 1 (f 5 (omega arith)),
-      (g 2 (f 6 (omega arith)),
-      (g 3 (f 7 (omega arith)),
-      (g 4 (f 8 (omega arith)),
-      (g 5 (f 9 (omega arith)),
-      (g 6 (f 10 (omega arith)),
-      (g 7 (f 11 (omega arith)),
-      tt))))))))))))
+      let g : (i : ℕ) → Fits (siteOf a r i) (memoryAt s (4 + i)) → Fits (siteOf a r i) (site′ a r weights (memoryAt s) x condition i) = site-fits (memoryAt s) in (
+        pushed-fits _ _ _ (f 0 (omega arith)),
+        (
+          pushed-fits _ _ _ (f 1 (omega arith)),
+          (
+            pushed-fits _ _ _ (f 2 (omega arith)),
+            (
+              pushed-fits _ _ _ (f 3 (omega arith)),
+              (
+                g 0 (f 4 (omega arith)),
+                (
+                  g 1 (f 5 (omega arith)),
+                  (
+                    g 2 (f 6 (omega arith)),
+                    (
+                      g 3 (f 7 (omega arith)),
+                      (
+                        g 4 (f 8 (omega arith)),
+                        (
+                          g 5 (f 9 (omega arith)),
+                          (
+                            g 6 (f 10 (omega arith)),
+                            (
+                              g 7 (f 11 (omega arith)),
+                              tt,
+                            ),
+                          ),
+                        ),
+                      ),
+                    ),
+                  ),
+                ),
+              ),
+            ),
+          ),
+        ),
+      )
 
 one-fits : (p : Part) (s : List Memory) (x : ℕ → Float) → AllFit (p ∷ []) s → AllFit (p ∷ []) (pushed p (memoryAt s 0) x ∷ [])
 unfolding AllFit

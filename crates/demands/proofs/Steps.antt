@@ -11,7 +11,7 @@ use Rattle.turns.specs.Grid.{statesAfter, columnsAfter}
 use Rattle.turns.proofs.Numbered.{states-join, columns-join}
 use Rattle.array.specs.Stages.{Column, stageCount, next, out}
 use Rattle.array.specs.Memories.{memoriesOf, historiesFrom, positionsFrom}
-use Rattle.array.specs.Calls.{Answers, statesFrom, columnsFrom, brought, historiesPlayed, positionsPlayed}
+use Rattle.array.specs.Calls.{statesFrom, columnsFrom, brought, historiesPlayed, positionsPlayed}
 use Rattle.array.proofs.Views.{histories-ext, positions-ext}
 use Rattle.demands.specs.Calls.{Call, Meets, countOf, refusalFor, handed, ifAccepted, played, given, Follows, Sequence, PlaysAs}
 use Rattle.demands.proofs.Below.{states-same, columns-same}

@@ -62,7 +62,7 @@ table =
     ∷ row "Leaky 0.5 at -0 is -0" (bitsOf (leaky (float 0x3f00_0000) (float 0x8000_0000))) (0x8000_0000 ∷ [])
     ∷ row "Sigmoid(0) = 0.5" (bitsOf (sigmoid (float 0))) (0x3f00_0000 ∷ [])
     ∷ row "Gated, Leaky 0.5 and ReLU, (-4, 3) gives -6"
-      (bitsOf (joined Gated (LeakyRelu (float 0x3f00_0000)) Relu (float 0xc080_0000) (float 0x4040_0000))) (0xc0c0_0000 ∷ [])
+    (bitsOf (joined Gated (LeakyRelu (float 0x3f00_0000)) Relu (float 0xc080_0000) (float 0x4040_0000))) (0xc0c0_0000 ∷ [])
     ∷ row "Blended, ReLU twice, (-2, 0.25) gives -1.5" (bitsOf (joined Blended Relu Relu (float 0xc000_0000) (float 0x3e80_0000))) (0xbfc0_0000 ∷ [])
     ∷ row "FiLM 3 by 2 and -1 gives 5" (bitsOf (modulated (modulationOf true (float 0x4000_0000) (float 0xbf80_0000)) (float 0x4040_0000))) (0x40a0_0000 ∷ [])
     ∷ row "no bias, weight 1, input -0 gives +0" (bitsOf (convolvedOnce (float 0x3f80_0000) (float 0x8000_0000))) (0 ∷ [])

@@ -1,6 +1,6 @@
 -- How results of calls compare. Document 01, 'What the contracts have to say'. Scratch after success is exempt, so it stands in none of these.
 use mathlib.Core.Path.{_≡_}
-use mathlib.Core.List.{List}
+use mathlib.Core.List.{List, []}
 use Prim.Native.Nat.{ℕ}
 use lib.ListN.{getD}
 use lib.Ieee.{Float}
@@ -12,7 +12,7 @@ use Rattle.array.specs.Memories.{memoriesOf, historiesFrom, positionsFrom}
 use Rattle.array.specs.Planar.{columnsIn, blockOf}
 use Rattle.array.specs.Lent.{Lent, Left}
 use Rattle.array.specs.Calls.{noColumn}
-use Rattle.demands.specs.Calls.{Call, countOf, given}
+use Rattle.demands.specs.Calls.{Call, countOf, played, given}
 
 -- two results agree
 pub record Agree (e e′ : Left) : Type 0 where
@@ -34,6 +34,13 @@ pub record SameEnd (calls calls′ : List Call) (histories histories′ : List F
   pub histories-same : histories ≡ histories′
   pub positions-same : positions ≡ positions′
   pub columns-same : given calls ≡ given calls′
+
+-- calls of which none was accepted
+pub record NothingPlayed (calls : List Call) (histories histories′ : List Float) (positions positions′ : List ℕ) : Type 0 where
+  pub histories-kept : histories′ ≡ histories
+  pub positions-kept : positions′ ≡ positions
+  pub none-played : played calls ≡ []
+  pub none-given : given calls ≡ []
 
 -- the same buffers, but for what scratch holds
 abbrev pub withScratch : Lent → List Float → Lent
