@@ -1,11 +1,13 @@
--- Any two results that meet a call's contract agree; and they do not hang on what scratch held. Document 01, 'What the contracts have to say' and
--- 'Refusal numbers'. Assumes nothing.
-use mathlib.Core.Path.{_≡_, refl, sym, _∙_}
+-- Any two results that meet a call's contract agree, and there is one; they do not hang on what scratch held, nor accepted ones on the plan. Document
+-- 01, 'What the contracts have to say' and 'Refusal numbers'. Assumes nothing.
+use mathlib.Core.Path.{_≡_, refl, sym, _∙_, ap}
+use mathlib.Core.Bool.{Bool, true, false, cond}
 use mathlib.Core.List.{List}
 use Prim.Native.Nat.{ℕ}
+use lib.Dec.{eqb}
 use lib.ListN.{length}
 use lib.Ieee.{Float}
-use borrow.Author.Tests.{ne-eqb}
+use borrow.Author.Tests.{eq-eqb, ne-eqb}
 use Rattle.array.specs.Lent.{Lent, Left}
 use Rattle.array.specs.Refusals.{refused7, refused8, refused9, columnRefusal, blockRefusal, plannedRefusal}
 use Rattle.array.specs.Calls.{statesFrom, columnsFrom, brought, historiesPlayed, positionsPlayed, headPlayed, arrayPlayed}
@@ -27,6 +29,43 @@ module _ (kind : Kind) (lent : Lent) (left left′ : Left)
   pub scratch-agrees : (left .answer ≡ 0 → ⊥) → left .scratch ≡ left′ .scratch
   scratch-agrees ne =
       let refused = ne-eqb (refusalFor kind lent) 0 (λ e. ne (m .answer ∙ e)) in rw refused at (m .scratch) ∙ sym (rw refused at (m′ .scratch))
+
+-- there is a result that meets it
+module _ (kind : Kind) (lent : Lent) where
+  abbrev accepted : Bool
+  accepted = eqb (refusalFor kind lent) 0
+
+  abbrev result : Left
+  result = record {
+    answer = refusalFor kind lent;
+    histories = cond accepted (historiesPlayed lent (countOf kind)) (lent .histories);
+    positions = cond accepted (positionsPlayed lent (countOf kind)) (lent .positions);
+    head-out = cond accepted (headPlayed lent (countOf kind)) (lent .head-out);
+    array-out = cond accepted (arrayPlayed lent (countOf kind)) (lent .array-out);
+    scratch = lent .scratch;
+  }
+
+  pub some-result : Meets (record { kind = kind; lent = lent; left = result })
+  some-result = record { answer = refl; histories = refl; positions = refl; head-out = refl; array-out = refl; scratch = either accepted }
+    where
+      either : (b : Bool) → lent .scratch ≡ cond b (lent .scratch) (lent .scratch)
+      either true = refl
+      either false = refl
+
+-- ---- accepted calls that bring the same columns come to the same, whatever their kinds and plans
+module _ (kind kind′ : Kind) (lent : Lent) (left left′ : Left) (same : countOf kind ≡ countOf kind′)
+    (m : Meets (record { kind = kind; lent = lent; left = left })) (m′ : Meets (record { kind = kind′; lent = lent; left = left′ })) where
+  pub kinds-agree : left .answer ≡ 0 → left′ .answer ≡ 0 → Agree left left′
+  kinds-agree z z′ =
+      let ok = eq-eqb (refusalFor kind lent) 0 (sym (m .answer) ∙ z) in
+      let ok′ = eq-eqb (refusalFor kind′ lent) 0 (sym (m′ .answer) ∙ z′) in
+      record {
+        answer-same = z ∙ sym z′;
+        histories-same = rw ok at (m .histories) ∙ ap (historiesPlayed lent) same ∙ sym (rw ok′ at (m′ .histories));
+        positions-same = rw ok at (m .positions) ∙ ap (positionsPlayed lent) same ∙ sym (rw ok′ at (m′ .positions));
+        head-out-same = rw ok at (m .head-out) ∙ ap (headPlayed lent) same ∙ sym (rw ok′ at (m′ .head-out));
+        array-out-same = rw ok at (m .array-out) ∙ ap (arrayPlayed lent) same ∙ sym (rw ok′ at (m′ .array-out));
+      }
 
 -- ---- what scratch held is of no account
 module _ (b : Lent) (scratch : List Float) (long : length scratch ≡ length (b .scratch)) where

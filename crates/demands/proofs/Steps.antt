@@ -15,7 +15,8 @@ use Rattle.array.specs.Calls.{statesFrom, columnsFrom, brought, historiesPlayed
 use Rattle.array.proofs.Views.{histories-ext, positions-ext}
 use Rattle.demands.specs.Calls.{Call, Meets, countOf, refusalFor, handed, ifAccepted, played, given, Follows, Sequence, PlaysAs}
 use Rattle.demands.proofs.Below.{states-same, columns-same}
-use Rattle.demands.proofs.Sized.{Sized, again, after-sized}
+use Rattle.demands.proofs.Sized.{Sized, again}
+use Rattle.demands.proofs.Kept.{after-sized}
 use Rattle.demands.proofs.Outputs.{handed-are}
 
 -- the columns that a call brought, if it was accepted
