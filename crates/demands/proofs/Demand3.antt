@@ -78,8 +78,8 @@ module _ (d : List ℕ) (w : List Float) where
   always-refused histories positions c unfit f ok =
       let long = accepted-lengths (c .kind) (c .lent) (sym (f .meets .answer) ∙ ok) in
       unfit
-      (ap length (sym (f .histories-are)) ∙ long .histories-long ∙ ap (λ (d : List ℕ). total historiesOf (partsOf d)) (f .description-is))
-      (ap length (sym (f .positions-are)) ∙ long .positions-long ∙ ap (λ (d : List ℕ). total positionsOf (partsOf d)) (f .description-is))
+      (ap length (sym (f .histories-are)) ∙ long .histories-long ∙ ap (λ (d : List ℕ). total historiesOf (partsOf d)) (f .description-is ok))
+      (ap length (sym (f .positions-are)) ∙ long .positions-long ∙ ap (λ (d : List ℕ). total positionsOf (partsOf d)) (f .description-is ok))
 
   none-by : (c : Call) → (c .left .answer ≡ 0 → ⊥) → (columns : List Column) → ifAccepted c columns ≡ []
   none-by c ne columns = ap (λ (b : Bool). cond b columns []) (ne-eqb (c .left .answer) 0 ne)

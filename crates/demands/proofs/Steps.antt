@@ -6,6 +6,7 @@ use mathlib.Core.List.{List, [], _∷_, _++_}
 use Prim.Native.Nat.{ℕ, _<_}
 use lib.Dec.{eqb}
 use lib.Ieee.{Float}
+use borrow.Author.Tests.{eqb-true}
 use Rattle.ring.specs.Memory.{Memory}
 use Rattle.turns.specs.Grid.{statesAfter, columnsAfter}
 use Rattle.turns.proofs.Numbered.{states-join, columns-join}
@@ -29,85 +30,90 @@ record Stepped (d : List ℕ) (w : List Float) (st : ℕ → List Memory) (c : C
   positions : c .left .positions ≡ positionsFrom d (statesAfter (next d w) (out d w) st (playedBy c))
   columns : ifAccepted c (handed c) ≡ columnsAfter (next d w) (out d w) (stageCount d) st (playedBy c)
 
-module _ (c : Call) (st : ℕ → List Memory) (sized : Sized (c .lent .description) st)
-    (histories-held : c .lent .histories ≡ historiesFrom (c .lent .description) st) (positions-held : c .lent .positions ≡ positionsFrom (c .lent .description) st)
-    (meets : Meets c) where
-  abbrev d : List ℕ
-  d = c .lent .description
-
-  abbrev w : List Float
-  w = c .lent .weights
-
-  -- what the buffers hold is what the stages remember
-  held : (k : ℕ) → k < stageCount d → memoriesOf d (c .lent .histories) (c .lent .positions) k ≡ st k
-  held k l =
-      ap (λ (h : List Float). memoriesOf d h (c .lent .positions) k) histories-held
-      ∙ ap (λ (p : List ℕ). memoriesOf d (historiesFrom d st) p k) positions-held
-      ∙ again d st sized k l
-
+module _ (c : Call) (meets : Meets c) where
   chosen : (b : Bool) → eqb (refusalFor (c .kind) (c .lent)) 0 ≡ b → (columns : List Column) → ifAccepted c columns ≡ cond b columns []
   chosen b e columns = ap (λ (n : ℕ). cond (eqb n 0) columns []) (meets .answer) ∙ ap (λ (b : Bool). cond b columns []) e
 
-  accepted : eqb (refusalFor (c .kind) (c .lent)) 0 ≡ true → Stepped d w st c
-  unfolding historiesPlayed positionsPlayed statesFrom columnsFrom
-  accepted ok =
-      let vs = brought (c .lent) (countOf (c .kind)) in
-      let first = memoriesOf d (c .lent .histories) (c .lent .positions) in
-      let same = states-same (next d w) (out d w) (stageCount d) vs first st held in
-      let e : playedBy c ≡ vs = chosen true ok vs in
-      record {
-        histories =
-            rw ok at (meets .histories)
-            ∙ histories-ext d (statesAfter (next d w) (out d w) first vs) (statesAfter (next d w) (out d w) st vs) same
-            ∙ ap (λ (vs : List Column). historiesFrom d (statesAfter (next d w) (out d w) st vs)) (sym e);
-        positions =
-            rw ok at (meets .positions)
-            ∙ positions-ext d (statesAfter (next d w) (out d w) first vs) (statesAfter (next d w) (out d w) st vs) same
-            ∙ ap (λ (vs : List Column). positionsFrom d (statesAfter (next d w) (out d w) st vs)) (sym e);
-        columns =
-            chosen true ok (handed c)
-            ∙ handed-are c (rw ok at (meets .array-out)) (rw ok at (meets .head-out))
-            ∙ columns-same (next d w) (out d w) (stageCount d) vs first st held
-            ∙ ap (λ (vs : List Column). columnsAfter (next d w) (out d w) (stageCount d) st vs) (sym e);
-      }
+  module _ (st : ℕ → List Memory) (sized : Sized (c .lent .description) st)
+      (histories-held : c .lent .histories ≡ historiesFrom (c .lent .description) st) (positions-held : c .lent .positions ≡ positionsFrom (c .lent .description) st) where
+    abbrev d : List ℕ
+    d = c .lent .description
 
-  refused : eqb (refusalFor (c .kind) (c .lent)) 0 ≡ false → Stepped d w st c
+    abbrev w : List Float
+    w = c .lent .weights
+
+    -- what the buffers hold is what the stages remember
+    held : (k : ℕ) → k < stageCount d → memoriesOf d (c .lent .histories) (c .lent .positions) k ≡ st k
+    held k l =
+        ap (λ (h : List Float). memoriesOf d h (c .lent .positions) k) histories-held
+        ∙ ap (λ (p : List ℕ). memoriesOf d (historiesFrom d st) p k) positions-held
+        ∙ again d st sized k l
+
+    accepted : eqb (refusalFor (c .kind) (c .lent)) 0 ≡ true → Stepped d w st c
+    unfolding historiesPlayed positionsPlayed statesFrom columnsFrom
+    accepted ok =
+        let vs = brought (c .lent) (countOf (c .kind)) in
+        let first = memoriesOf d (c .lent .histories) (c .lent .positions) in
+        let same = states-same (next d w) (out d w) (stageCount d) vs first st held in
+        let e : playedBy c ≡ vs = chosen true ok vs in
+        record {
+          histories =
+              rw ok at (meets .histories)
+              ∙ histories-ext d (statesAfter (next d w) (out d w) first vs) (statesAfter (next d w) (out d w) st vs) same
+              ∙ ap (λ (vs : List Column). historiesFrom d (statesAfter (next d w) (out d w) st vs)) (sym e);
+          positions =
+              rw ok at (meets .positions)
+              ∙ positions-ext d (statesAfter (next d w) (out d w) first vs) (statesAfter (next d w) (out d w) st vs) same
+              ∙ ap (λ (vs : List Column). positionsFrom d (statesAfter (next d w) (out d w) st vs)) (sym e);
+          columns =
+              chosen true ok (handed c)
+              ∙ handed-are c (rw ok at (meets .array-out)) (rw ok at (meets .head-out))
+              ∙ columns-same (next d w) (out d w) (stageCount d) vs first st held
+              ∙ ap (λ (vs : List Column). columnsAfter (next d w) (out d w) (stageCount d) st vs) (sym e);
+        }
+
+module _ (d : List ℕ) (w : List Float) (histories : List Float) (positions : List ℕ) (c : Call) (f : Follows d w histories positions c) (st : ℕ → List Memory) where
+  -- what is known before the call
+  abbrev Held : List ℕ → Type 0
+  Held d = Sized d st × (histories ≡ historiesFrom d st) × (positions ≡ positionsFrom d st)
+
+  taken : eqb (refusalFor (c .kind) (c .lent)) 0 ≡ true → Held d → Stepped d w st c
+  taken ok =
+      let zero-is : c .left .answer ≡ 0 = f .meets .answer ∙ eqb-true (refusalFor (c .kind) (c .lent)) 0 ok in
+      let own : Held (c .lent .description) → Stepped (c .lent .description) (c .lent .weights) st c =
+      λ h. accepted c (f .meets) st (h .0) (f .histories-are ∙ h .1) (f .positions-are ∙ h .2) ok in
+      subst (λ (d : List ℕ). Held d → Stepped d w st c) (f .description-is zero-is)
+      (subst (λ (w : List Float). Held (c .lent .description) → Stepped (c .lent .description) w st c) (f .weights-are zero-is) own)
+
+  -- a refused call, whatever its description
+  refused : eqb (refusalFor (c .kind) (c .lent)) 0 ≡ false → Held d → Stepped d w st c
   unfolding statesAfter columnsAfter
-  refused not-ok =
-      let e : playedBy c ≡ [] = chosen false not-ok (brought (c .lent) (countOf (c .kind))) in
+  refused not-ok h =
+      let e : playedBy c ≡ [] = chosen c (f .meets) false not-ok (brought (c .lent) (countOf (c .kind))) in
       record {
         histories =
-            rw not-ok at (meets .histories)
-            ∙ histories-held
+            rw not-ok at (f .meets .histories)
+            ∙ f .histories-are
+            ∙ h .1
             ∙ ap (λ (vs : List Column). historiesFrom d (statesAfter (next d w) (out d w) st vs)) (sym e);
         positions =
-            rw not-ok at (meets .positions)
-            ∙ positions-held
+            rw not-ok at (f .meets .positions)
+            ∙ f .positions-are
+            ∙ h .2
             ∙ ap (λ (vs : List Column). positionsFrom d (statesAfter (next d w) (out d w) st vs)) (sym e);
         columns =
-            chosen false not-ok (handed c)
+            chosen c (f .meets) false not-ok (handed c)
             ∙ ap (λ (vs : List Column). columnsAfter (next d w) (out d w) (stageCount d) st vs) (sym e);
       }
 
-  own-step : Stepped d w st c
-  own-step = by (eqb (refusalFor (c .kind) (c .lent)) 0) refl
+  step : Held d → Stepped d w st c
+  step h = by (eqb (refusalFor (c .kind) (c .lent)) 0) refl
     where
       by : (b : Bool) → eqb (refusalFor (c .kind) (c .lent)) 0 ≡ b → Stepped d w st c
-      by true e = accepted e
-      by false e = refused e
+      by true e = taken e h
+      by false e = refused e h
 
 module _ (d : List ℕ) (w : List Float) where
-  -- the same for a call that follows others
-  step : (histories : List Float) (positions : List ℕ) (c : Call) → Follows d w histories positions c → (st : ℕ → List Memory) → Sized d st
-      → histories ≡ historiesFrom d st → positions ≡ positionsFrom d st → Stepped d w st c
-  step histories positions c f st =
-      let own : Sized (c .lent .description) st → histories ≡ historiesFrom (c .lent .description) st → positions ≡ positionsFrom (c .lent .description) st
-      → Stepped (c .lent .description) (c .lent .weights) st c =
-      λ sized h p. own-step c st sized (f .histories-are ∙ h) (f .positions-are ∙ p) (f .meets) in
-      subst (λ (d : List ℕ). Sized d st → histories ≡ historiesFrom d st → positions ≡ positionsFrom d st → Stepped d w st c) (f .description-is)
-      (subst (λ (w : List Float). Sized (c .lent .description) st → histories ≡ historiesFrom (c .lent .description) st
-      → positions ≡ positionsFrom (c .lent .description) st → Stepped (c .lent .description) w st c) (f .weights-are) own)
-
   -- calls one after the other, from any state of the right sizes
   pub plays-from : (calls : List Call) (st : ℕ → List Memory) (histories histories′ : List Float) (positions positions′ : List ℕ) → Sized d st
       → histories ≡ historiesFrom d st → positions ≡ positionsFrom d st → Sequence d w histories positions calls histories′ positions′
@@ -116,7 +122,7 @@ module _ (d : List ℕ) (w : List Float) where
   plays-from [] st histories histories′ positions positions′ sized h p s =
       record { histories = s .0 ∙ h; positions = s .1 ∙ p; columns = refl }
   plays-from (c ∷ cs) st histories histories′ positions positions′ sized h p s =
-      let now = step histories positions c (s .0) st sized h p in
+      let now = step d w histories positions c (s .0) st (sized, h, p) in
       let later = plays-from cs (statesAfter (next d w) (out d w) st (playedBy c)) (c .left .histories) histories′ (c .left .positions) positions′
       (after-sized d w (playedBy c) st sized) (now .histories) (now .positions) (s .1) in
       let join = sym (states-join (next d w) (out d w) st (playedBy c) (played cs)) in

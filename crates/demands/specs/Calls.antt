@@ -70,15 +70,15 @@ given [] = []
 given (c ∷ cs) = ifAccepted c (handed c) ++ given cs
 
 module _ (d : List ℕ) (w : List Float) where
-  -- a call with this description and these weights, lent these histories and positions, that meets its contract
+  -- a call that is lent these histories and positions and meets its contract; if it was accepted, it had this description and these weights
   pub record Follows (histories : List Float) (positions : List ℕ) (c : Call) : Type 0 where
-    pub description-is : c .lent .description ≡ d
-    pub weights-are : c .lent .weights ≡ w
+    pub description-is : c .left .answer ≡ 0 → c .lent .description ≡ d
+    pub weights-are : c .left .answer ≡ 0 → c .lent .weights ≡ w
     pub histories-are : c .lent .histories ≡ histories
     pub positions-are : c .lent .positions ≡ positions
     pub meets : Meets c
 
-  -- calls one after the other, refused ones among them: each is lent what the one before it left
+  -- calls one after the other, refused ones of any kind among them: each is lent what the one before it left
   unfoldable pub Sequence : List Float → List ℕ → List Call → List Float → List ℕ → Type 0
   Sequence histories positions [] histories′ positions′ = (histories′ ≡ histories) × (positions′ ≡ positions)
   Sequence histories positions (c ∷ cs) histories′ positions′ =
