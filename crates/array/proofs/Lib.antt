@@ -1,4 +1,3 @@
-pub mod CaseA
 pub mod Views
 pub mod Places
 pub mod Turning

@@ -1,0 +1,14 @@
+pub mod Demand1
+pub mod Demand2
+pub mod Demand3
+pub mod Agree
+pub mod Bench
+pub mod Silence
+pub mod Below
+pub mod Fitting
+pub mod StageParts
+pub mod Sized
+pub mod Kept
+pub mod Outputs
+pub mod Accepted
+pub mod Steps

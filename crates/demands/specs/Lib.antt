@@ -1,0 +1,5 @@
+pub mod Calls
+pub mod Results
+pub mod Silence
+pub mod CaseA
+pub mod Bench
