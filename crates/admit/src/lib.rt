@@ -1,0 +1,2 @@
+// The check of a call. Document 01, 'Refusal numbers' 6 to 9.
+pub mod plan;
