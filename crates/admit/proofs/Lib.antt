@@ -1,1 +1,3 @@
+pub mod Below
+mod Passing
 mod Turning

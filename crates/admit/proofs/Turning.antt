@@ -9,9 +9,9 @@ use native.Mathlib.Omega.{arith}
 use lib.Dec.{leb, ltb}
 use lib.ListN.{drop, drop-of-length-le, getD, length, length-replicate, replicate, take}
 use lib.Seq.{drop-cons}
-use borrow.Author.Tests.{eq-eqb, le-leb, le-ltb, lt-leb, lt-ltb, ne-eqb}
+use borrow.Author.Tests.{eq-eqb, le-ltb, lt-leb, ne-eqb}
 use Rattle.turns.specs.Plan.{allAre, allows, keepsFrom, keepsRule, limit, taken}
-use Rattle.turns.proofs.Rule.{allowing, end-is, length-taken, odd-refused, turn-is}
+use Rattle.turns.proofs.Rule.{allowing, end-is, odd-refused, turn-is}
 
 pub limit-zero : (n : ℕ) (reached : List ℕ) (stage : ℕ) → stage ≡ 0 → n ≡ limit n reached stage
 unfolding limit
