@@ -5,7 +5,6 @@ use Prim.Native.Nat.{_-_, _<_, _≤_}
 use native.Mathlib.Omega.{arith}
 use lib.ListN.{length}
 use borrow.Author.Needs.{needs}
-use Rattle.admit.specs.Passes.{passed}
 use Rattle.description.proofs.Slots.{head-rechannel-fits, rechannel-fits}
 use Rattle.description.proofs.Sound.{array-in-range, layer-in-range, layers-are, layers-of, length-is}
 use Rattle.description.specs.Numbers.{layerCount}
@@ -15,6 +14,7 @@ use Rattle.description.specs.Records.{arrayOf}
 use Rattle.description.specs.Refusals.{refusalOf}
 use Rattle.description.specs.Sizes.{positionsOf, total}
 use Rattle.description.specs.declared.parts.Part.{Part}
+use Rattle.admit.specs.Passes.{passed}
 use Rattle.admit.proofs.Passing.{first-passed, first-room, last-passed, last-room, layer-more, layer-room, origin, slots-same}
 use Rattle.admit.proofs.places.places_beyond.Statement.{statement}
 use Rattle.admit.proofs.places.places_beyond.Tie as tie
@@ -33,13 +33,15 @@ part-requires : tie.Need-part-requires Inv-loop μ-loop
 part-requires c κs =
     let args = c .before .before .before .args in
     let pre = c .before .before .before .pre in
-    let e : c .rechannel .result ≡ rechannelOf (arrayOf (args .description .now)) = c .rechannel .ensures ∙ ap rechannelOf (pre .1 .0) in (subst Fits (sym e) (rechannel-fits (array-in-range (args .description .now) (pre .0))), omega (arith, ap positionsOf e, first-room (args .description .now) (args .positions .now) (pre .1 .1)))
+    let e : c .rechannel .result ≡ rechannelOf (arrayOf (args .description .now)) = c .rechannel .ensures ∙ ap rechannelOf (pre .1 .0) in
+    (subst Fits (sym e) (rechannel-fits (array-in-range (args .description .now) (pre .0))), omega (arith, ap positionsOf e, first-room (args .description .now) (args .positions .now) (pre .1 .1)))
 
 loop-holds : tie.Need-loop-holds Inv-loop μ-loop
 loop-holds c =
     let args = c .before .before .before .before .args in
     let pre = c .before .before .before .before .pre in
-    let e : c .before .rechannel .result ≡ rechannelOf (arrayOf (args .description .now)) = c .before .rechannel .ensures ∙ ap rechannelOf (pre .1 .0) in (search needs, pre .0, pre .1 .0, pre .1 .1, layers-of (args .description .now) (pre .1 .0), first-passed (args .description .now) (args .positions .now) (pre .1 .1) (c .part .ensures ∙ ap (λ (p : Part). passed (args .positions .now) origin (p ∷ [])) e))
+    let e : c .before .rechannel .result ≡ rechannelOf (arrayOf (args .description .now)) = c .before .rechannel .ensures ∙ ap rechannelOf (pre .1 .0) in
+    (search needs, pre .0, pre .1 .0, pre .1 .1, layers-of (args .description .now) (pre .1 .0), first-passed (args .description .now) (args .positions .now) (pre .1 .1) (c .part .ensures ∙ ap (λ (p : Part). passed (args .positions .now) origin (p ∷ [])) e))
 
 layer-record-requires : tie.Need-layer-record-requires Inv-loop μ-loop
 layer-record-requires c κs = omega (arith, length-is (c .before .before .before .before .before .before .args .description .now) (c .before .loop .inv .1), c .before .loop .inv .4, c .loop-test .taken)
@@ -48,7 +50,8 @@ layer-requires : tie.Need-layer-requires Inv-loop μ-loop
 layer-requires c κs =
     let args = c .before .before .before .before .before .before .before .args in
     let l = c .before .before .loop in
-    let lt : l .l < layerCount (args .description .now) = omega (arith, l .inv .4, c .before .loop-test .taken) in (subst ArrayRanges (sym (l .inv .2)) (array-in-range (args .description .now) (l .inv .1)), (subst LayerRanges (sym (c .layer-record .ensures)) (layer-in-range (args .description .now) (l .inv .1) (l .l) lt), omega (arith, ap (total positionsOf) (slots-same (l .inv .2) (c .layer-record .ensures)), layer-room (args .description .now) (args .positions .now) (l .inv .3) (l .l) (l .inv .5) lt)))
+    let lt : l .l < layerCount (args .description .now) = omega (arith, l .inv .4, c .before .loop-test .taken) in
+    (subst ArrayRanges (sym (l .inv .2)) (array-in-range (args .description .now) (l .inv .1)), (subst LayerRanges (sym (c .layer-record .ensures)) (layer-in-range (args .description .now) (l .inv .1) (l .l) lt), omega (arith, ap (total positionsOf) (slots-same (l .inv .2) (c .layer-record .ensures)), layer-room (args .description .now) (args .positions .now) (l .inv .3) (l .l) (l .inv .5) lt)))
 
 add-l : tie.Need-add-l Inv-loop μ-loop
 add-l c =
@@ -71,14 +74,18 @@ part-requires-2 : tie.Need-part-requires-2 Inv-loop μ-loop
 part-requires-2 c κs =
     let args = c .before .before .before .before .before .before .before .args in
     let l = c .before .before .loop in
-    let e : c .head-rechannel .result ≡ headRechannelOf (arrayOf (args .description .now)) = c .head-rechannel .ensures ∙ ap headRechannelOf (l .inv .2) in let end : l .l ≡ layerCount (args .description .now) = omega (arith, l .inv .0, l .inv .4, c .before .loop-test .left) in (subst Fits (sym e) (head-rechannel-fits (array-in-range (args .description .now) (l .inv .1))), omega (arith, ap positionsOf e, last-room (args .description .now) (args .positions .now) (l .inv .3) (l .l) (l .inv .5) end))
+    let e : c .head-rechannel .result ≡ headRechannelOf (arrayOf (args .description .now)) = c .head-rechannel .ensures ∙ ap headRechannelOf (l .inv .2) in
+    let end : l .l ≡ layerCount (args .description .now) = omega (arith, l .inv .0, l .inv .4, c .before .loop-test .left) in
+    (subst Fits (sym e) (head-rechannel-fits (array-in-range (args .description .now) (l .inv .1))), omega (arith, ap positionsOf e, last-room (args .description .now) (args .positions .now) (l .inv .3) (l .l) (l .inv .5) end))
 
 returns : tie.Need-returns Inv-loop μ-loop
 returns c =
     let head-rechannel = c .before .head-rechannel in
     let args = c .before .before .before .before .before .before .before .before .args in
     let l = c .before .before .before .loop in
-    let e : head-rechannel .result ≡ headRechannelOf (arrayOf (args .description .now)) = head-rechannel .ensures ∙ ap headRechannelOf (l .inv .2) in let end : l .l ≡ layerCount (args .description .now) = omega (arith, l .inv .0, l .inv .4, c .before .before .loop-test .left) in last-passed (args .description .now) (args .positions .now) (l .inv .3) (l .l) (l .inv .5) end (c .part2 .ensures ∙ ap (λ (p : Part). passed (args .positions .now) (l .pass) (p ∷ [])) e)
+    let e : head-rechannel .result ≡ headRechannelOf (arrayOf (args .description .now)) = head-rechannel .ensures ∙ ap headRechannelOf (l .inv .2) in
+    let end : l .l ≡ layerCount (args .description .now) = omega (arith, l .inv .0, l .inv .4, c .before .before .loop-test .left) in
+    last-passed (args .description .now) (args .positions .now) (l .inv .3) (l .l) (l .inv .5) end (c .part2 .ensures ∙ ap (λ (p : Part). passed (args .positions .now) (l .pass) (p ∷ [])) e)
 
 pub places-beyond-spec : {M : Type 1} → statement M
 places-beyond-spec =

@@ -4,11 +4,11 @@ use Prim.Native.Nat.{_+_, _-_, _≤_}
 use native.Mathlib.Omega.{arith}
 use lib.ListN.{length, take}
 use borrow.Author.Needs.{needs}
-use Rattle.admit.specs.Passes.{passed}
 use Rattle.description.proofs.Slots.{slot-fits}
 use Rattle.description.specs.Parts.{partOf, slotsOf}
 use Rattle.description.specs.Ranges.{ArrayRanges, Fits, LayerRanges}
 use Rattle.description.specs.Sizes.{positionsOf, total}
+use Rattle.admit.specs.Passes.{passed}
 use Rattle.admit.proofs.Passing.{part-more, part-room, parts-end, passed-none}
 use Rattle.admit.proofs.places.Pass.layer.Statement.{statement}
 use Rattle.admit.proofs.places.Pass.layer.Tie as tie

@@ -3,9 +3,9 @@ use mathlib.Core.List.{[], _∷_}
 use mathlib.Core.Path.{_∙_, _≡_, ap, sym}
 use native.Mathlib.Omega.{arith}
 use borrow.Author.Needs.{needs}
-use Rattle.admit.specs.Passes.{passed}
 use Rattle.description.specs.Sizes.{positionsOf}
 use Rattle.description.specs.declared.parts.Part.{Part}
+use Rattle.admit.specs.Passes.{passed}
 use Rattle.admit.proofs.Passing.{passed-absent, passed-there}
 use Rattle.admit.proofs.places.Pass.part.Statement.{statement}
 use Rattle.admit.proofs.places.Pass.part.Tie as tie
@@ -22,7 +22,8 @@ mul-place c = search needs
 shared-slice-read-place : tie.Need-shared-slice-read-place
 unfolding positionsOf
 shared-slice-read-place c =
-    let one : positionsOf (c .before .before .before .before .before .args .part) ≡ 1 = rw (c .before .before .part .given .1) in omega (arith, c .before .before .before .before .before .pre .1)
+    let one : positionsOf (c .before .before .before .before .before .args .part) ≡ 1 = rw (c .before .before .part .given .1) in
+    omega (arith, c .before .before .before .before .before .pre .1)
 
 cast-place : tie.Need-cast-place
 cast-place c = omega (arith, c .shared-slice-known2 .given (c .before .before .before .before .before .args .self .at))
@@ -41,7 +42,8 @@ unfolding positionsOf
 returns-2 c =
     let args = c .before .before .before .before .before .before .before .args in
     let part = c .before .before .before .before .part in
-    let one : positionsOf (args .part) ≡ 1 = rw (part .given .1) in passed-there (args .positions .now) (args .self) _ (omega (arith, c .before .before .before .before .before .before .before .pre .1)) (c .before .ring-length .ensures) ∙ ap (λ (p : Part). passed (args .positions .now) (args .self) (p ∷ [])) (sym (part .given .1))
+    let one : positionsOf (args .part) ≡ 1 = rw (part .given .1) in
+    passed-there (args .positions .now) (args .self) _ (omega (arith, c .before .before .before .before .before .before .before .pre .1)) (c .before .ring-length .ensures) ∙ ap (λ (p : Part). passed (args .positions .now) (args .self) (p ∷ [])) (sym (part .given .1))
 
 pub part-spec : {M : Type 1} → statement M
 part-spec =
