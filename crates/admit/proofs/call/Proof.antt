@@ -21,20 +21,18 @@ enum-told c = search needs
 
 returns : tie.Need-returns
 returns c =
-    let args = c .before .before .before .before .before .before .before .before .before .before .before .before .before .args in
-    let b = (lentOf (args .description .now) (args .weights .now) (args .histories .now) (args .positions .now) (args .input .now) (args .condition .now) (args .head-in .now) (args .head-out .now) (args .array-out .now) (args .scratch .now)) in
-    refused b (args .n) (c .before .before .check .ensures) (c .enum-told .given .1)
+    refused _ _ (c .before .before .check .ensures) (c .enum-told .given .1)
 
 returns-2 : tie.Need-returns-2
 returns-2 c =
-    let args = c .before .before .before .before .before .before .before .before .before .before .before .before .before .before .before .args in
-    let b = (lentOf (args .description .now) (args .weights .now) (args .histories .now) (args .positions .now) (args .input .now) (args .condition .now) (args .head-in .now) (args .head-out .now) (args .array-out .now) (args .scratch .now)) in
-    many-columns b (args .n) (c .before .before .before .before .check .ensures) (c .before .before .checked .given .1) (c .if1 .taken)
+    many-columns _ _ (c .before .before .before .before .check .ensures) (c .before .before .checked .given .1) (c .if1 .taken)
 
 read-array-requires : tie.Need-read-array-requires
 read-array-requires c κs =
     let args = c .before .before .before .before .before .before .before .before .before .before .before .before .before .before .before .args in
-    let b = (lentOf (args .description .now) (args .weights .now) (args .histories .now) (args .positions .now) (args .input .now) (args .condition .now) (args .head-in .now) (args .head-out .now) (args .array-out .now) (args .scratch .now)) in
+    let b =
+    lentOf (args .description .now) (args .weights .now) (args .histories .now) (args .positions .now) (args .input .now) (args .condition .now)
+    (args .head-in .now) (args .head-out .now) (args .array-out .now) (args .scratch .now) in
     omega (arith, length-is (args .description .now) (described b (args .n) (c .before .before .before .before .check .ensures) (c .before .before .checked .given .1)))
 
 differ-requires : tie.Need-differ-requires
@@ -42,15 +40,15 @@ differ-requires c κs =
     let check = c .before .before .before .before .before .check in
     let checked = c .before .before .before .checked in
     let args = c .before .before .before .before .before .before .before .before .before .before .before .before .before .before .before .before .args in
-    let b = (lentOf (args .description .now) (args .weights .now) (args .histories .now) (args .positions .now) (args .input .now) (args .condition .now) (args .head-in .now) (args .head-out .now) (args .array-out .now) (args .scratch .now)) in
+    let b =
+    lentOf (args .description .now) (args .weights .now) (args .histories .now) (args .positions .now) (args .input .now) (args .condition .now)
+    (args .head-in .now) (args .head-out .now) (args .array-out .now) (args .scratch .now) in
     (subst ArrayRanges (sym (c .read-array .ensures)) (array-in-range (args .description .now) (described b (args .n) (check .ensures) (checked .given .1))), (widest-low b (args .n) (check .ensures) (checked .given .1), c .before .if1 .left))
 
 returns-3 : tie.Need-returns-3
 unfolding lengthsOf
 returns-3 c =
-    let args = c .before .before .before .before .before .before .before .before .before .before .before .before .before .before .before .before .before .before .args in
-    let b = (lentOf (args .description .now) (args .weights .now) (args .histories .now) (args .positions .now) (args .input .now) (args .condition .now) (args .head-in .now) (args .head-out .now) (args .array-out .now) (args .scratch .now)) in
-    other-lengths b (args .n) (c .before .before .before .before .before .before .before .check .ensures) (c .before .before .before .before .before .checked .given .1) (c .before .before .before .if1 .left) (c .before .before .read-array .ensures) (c .before .differ .ensures) (c .if2 .taken)
+    other-lengths _ _ (c .before .before .before .before .before .before .before .check .ensures) (c .before .before .before .before .before .checked .given .1) (c .before .before .before .if1 .left) (c .before .before .read-array .ensures) (c .before .differ .ensures) (c .if2 .taken)
 
 places-beyond-requires : tie.Need-places-beyond-requires
 unfolding lengthsOf
@@ -59,22 +57,20 @@ places-beyond-requires c κs =
     let checked = c .before .before .before .before .before .checked in
     let read-array = c .before .before .read-array in
     let args = c .before .before .before .before .before .before .before .before .before .before .before .before .before .before .before .before .before .before .args in
-    let b = (lentOf (args .description .now) (args .weights .now) (args .histories .now) (args .positions .now) (args .input .now) (args .condition .now) (args .head-in .now) (args .head-out .now) (args .array-out .now) (args .scratch .now)) in
+    let b =
+    lentOf (args .description .now) (args .weights .now) (args .histories .now) (args .positions .now) (args .input .now) (args .condition .now)
+    (args .head-in .now) (args .head-out .now) (args .array-out .now) (args .scratch .now) in
     (described b (args .n) (check .ensures) (checked .given .1), (read-array .ensures, positions-are b (args .n) (check .ensures) (checked .given .1) (c .before .before .before .if1 .left) (read-array .ensures) (c .before .differ .ensures) (c .if2 .left)))
 
 returns-4 : tie.Need-returns-4
 unfolding lengthsOf
 returns-4 c =
-    let args = c .before .before .before .before .before .before .before .before .before .before .before .before .before .before .before .before .before .before .before .before .args in
-    let b = (lentOf (args .description .now) (args .weights .now) (args .histories .now) (args .positions .now) (args .input .now) (args .condition .now) (args .head-in .now) (args .head-out .now) (args .array-out .now) (args .scratch .now)) in
-    far-position b (args .n) (c .before .before .before .before .before .before .before .before .before .check .ensures) (c .before .before .before .before .before .before .before .checked .given .1) (c .before .before .before .before .before .if1 .left) (c .before .before .before .before .read-array .ensures) (c .before .before .before .differ .ensures) (c .before .before .if2 .left) (c .before .places-beyond .ensures) (c .if3 .taken)
+    far-position _ _ (c .before .before .before .before .before .before .before .before .before .check .ensures) (c .before .before .before .before .before .before .before .checked .given .1) (c .before .before .before .before .before .if1 .left) (c .before .before .before .before .read-array .ensures) (c .before .before .before .differ .ensures) (c .before .before .if2 .left) (c .before .places-beyond .ensures) (c .if3 .taken)
 
 returns-5 : tie.Need-returns-5
 unfolding lengthsOf
 returns-5 c =
-    let args = c .before .before .before .before .before .before .before .before .before .before .before .before .before .before .before .before .before .before .before .before .args in
-    let b = (lentOf (args .description .now) (args .weights .now) (args .histories .now) (args .positions .now) (args .input .now) (args .condition .now) (args .head-in .now) (args .head-out .now) (args .array-out .now) (args .scratch .now)) in
-    done b (args .n) (c .before .before .before .before .before .before .before .before .before .check .ensures) (c .before .before .before .before .before .before .before .checked .given .1) (c .before .before .before .before .before .if1 .left) (c .before .before .before .before .read-array .ensures) (c .before .before .before .differ .ensures) (c .before .before .if2 .left) (c .before .places-beyond .ensures) (c .if3 .left)
+    done _ _ (c .before .before .before .before .before .before .before .before .before .check .ensures) (c .before .before .before .before .before .before .before .checked .given .1) (c .before .before .before .before .before .if1 .left) (c .before .before .before .before .read-array .ensures) (c .before .before .before .differ .ensures) (c .before .before .if2 .left) (c .before .places-beyond .ensures) (c .if3 .left)
 
 pub call-spec : {M : Type 1} → statement M
 call-spec =
