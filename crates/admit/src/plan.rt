@@ -19,7 +19,8 @@ fn furthest(reached: &[usize], n: usize, stage: usize) -> usize
     reached[stage - 1]
 }
 
-// One turn: taken where it is allowed, else nothing is stored. What is left is a difference, so that no sum wraps, whatever the count.
+// One turn: taken where it is allowed, else nothing is stored. Its last column, at + last, has to lie below the limit; that is asked of a difference,
+// so that no sum wraps, whatever the count.
 fn turn(reached: &mut [usize], n: usize, stage: usize, count: usize) -> bool
     ensures { λ r. ⌜ r ≡ allows (length (now (reached .entry))) n (now (reached .entry)) stage count ⌝ }
     ensures { λ r. ⌜ now (reached .exit) ≡ cond r (taken (now (reached .entry)) stage count) (now (reached .entry)) ⌝ }
@@ -35,7 +36,8 @@ fn turn(reached: &mut [usize], n: usize, stage: usize, count: usize) -> bool
     if most < at {
         return false;
     }
-    if most - at < count {
+    let last = count - 1;
+    if most - at <= last {
         return false;
     }
     reached[stage] = at + count;
