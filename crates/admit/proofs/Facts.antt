@@ -1,5 +1,5 @@
--- The theorems on the check of a call: each of the numbers 6 to 9 is given exactly when its test holds and no lower one, both ways; what holds where none
--- is given; a single column is a block of one; any two answers agree. Assumes nothing.
+-- The theorems on the check of a call: each of the numbers 6 to 9 is given exactly when its test holds and no lower one, both ways; a single
+-- column is a block of one; any two answers agree. Letting.antt says what holds where no number is given. Assumes nothing.
 use mathlib.Core.Path.{_≡_, refl, sym, _∙_, ap}
 use mathlib.Core.Bool.{Bool, true, false, cond}
 use mathlib.Core.List.{List}

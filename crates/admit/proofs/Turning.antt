@@ -11,7 +11,7 @@ use lib.ListN.{drop, drop-of-length-le, getD, length, length-replicate, replicat
 use lib.Seq.{drop-cons}
 use borrow.Author.Tests.{eq-eqb, le-ltb, lt-leb, ne-eqb}
 use Rattle.turns.specs.Plan.{allAre, allows, keepsFrom, keepsRule, limit, taken}
-use Rattle.turns.proofs.Rule.{allowing, end-is, odd-refused, turn-is}
+use Rattle.turns.proofs.Rule.{allowing, end-is, turn-is}
 
 pub limit-zero : (n : ℕ) (reached : List ℕ) (stage : ℕ) → stage ≡ 0 → n ≡ limit n reached stage
 unfolding limit
@@ -58,9 +58,6 @@ module _ (n : ℕ) (reached : List ℕ) (k : ℕ) where
 -- the loop over the turns: v is what the whole plan comes to
 module _ (stages n : ℕ) (plan : List ℕ) (i : ℕ) (reached : List ℕ) (v : Bool) (long : length reached ≡ stages)
     (so-far : keepsFrom stages n reached (drop (2 * i) plan) ≡ v) where
-  pub odd-plan : length plan ≡ 2 * i + 1 → false ≡ keepsFrom stages n reached plan
-  odd-plan e = sym (odd-refused stages n reached plan i e)
-
   module _ (lt : 2 * i + 1 < length plan) {b : Bool} {reached′ : List ℕ}
       (told : b ≡ allows (length reached) n reached (getD plan (2 * i) 0) (getD plan (2 * i + 1) 0))
       (left : reached′ ≡ cond b (taken reached (getD plan (2 * i) 0) (getD plan (2 * i + 1) 0)) reached) where

@@ -1,5 +1,5 @@
-// The check of a call: it touches nothing, and hands back the refusal or the sizes. Carries the asserts of layer.rs and array.rs on lengths.
-// Document 01, 'Refusal numbers' 6 to 9; the plan's 9 is in plan.rt.
+// The check of a call: it touches nothing, and hands back the refusal or the sizes. Carries the asserts of conv.rs and
+// film.rs on lengths and on the size of a block. Document 01, 'Refusal numbers' 1 to 8; the plan's 9 is in plan.rt.
 pub mod lengths;
 pub mod places;
 pub mod plan;

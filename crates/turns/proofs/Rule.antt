@@ -67,12 +67,12 @@ module _ (reached : List ℕ) (stage count : ℕ) where
 
 -- no stage gets past n, whatever allowed turns are taken
 pub record NonePast (n : ℕ) (reached : List ℕ) : Type 0 where
-  pub least : (k : ℕ) → getD reached k 0 ≤ n
+  pub most : (k : ℕ) → getD reached k 0 ≤ n
 
 pub limit-le : (n : ℕ) (reached : List ℕ) (stage : ℕ) → NonePast n reached → limit n reached stage ≤ n
 unfolding limit
 limit-le n reached zero b = omega arith
-limit-le n reached (suc k) b = b .least k
+limit-le n reached (suc k) b = b .most k
 
 none-first : (n stages k : ℕ) → getD (replicate stages 0) k 0 ≤ n
 none-first n zero k = omega arith
@@ -80,7 +80,7 @@ none-first n (suc stages) zero = omega arith
 none-first n (suc stages) (suc k) = none-first n stages k
 
 pub none-past-first : (n stages : ℕ) → NonePast n (replicate stages 0)
-none-past-first n stages = record { least = none-first n stages }
+none-past-first n stages = record { most = none-first n stages }
 
 module _ {stages n : ℕ} {reached : List ℕ} {stage count : ℕ} (turn : Allowed stages n reached stage count) (fits : length reached ≡ stages)
     (before : NonePast n reached) where
@@ -88,10 +88,10 @@ module _ {stages n : ℕ} {reached : List ℕ} {stage count : ℕ} (turn : Allow
   by-stage k true e =
       rw (eqb-true k stage (sym e), taken-same reached stage count (omega (arith, turn .there, fits)))
       (omega (arith, turn .within, limit-le n reached stage before))
-  by-stage k false e = omega (arith, taken-other reached stage count k (eqb-false k stage (sym e)), before .least k)
+  by-stage k false e = omega (arith, taken-other reached stage count k (eqb-false k stage (sym e)), before .most k)
 
   pub none-past-more : NonePast n (taken reached stage count)
-  none-past-more = record { least = λ k. by-stage k (eqb k stage) refl }
+  none-past-more = record { most = λ k. by-stage k (eqb k stage) refl }
 
 -- all numbers of a list are n
 pub all-are : (n : ℕ) (reached : List ℕ) → allAre n reached ≡ true → (k : ℕ) → k < length reached → getD reached k 0 ≡ n
@@ -139,8 +139,11 @@ module _ (stages n : ℕ) where
           ⊎-elim (λ q. no (sym (half-is (omega arith)) ∙ keeps)) (λ l. omega arith)
           (eq-or-lt-of-le {n = suc (2 * i)} {m = length plan} lt)
 
+      pub turn-allows : 2 * i < length plan → allows stages n reached (getD plan (2 * i) 0) (getD plan (2 * i + 1) 0) ≡ true
+      turn-allows lt = left-true _ _ (sym (turn-is (whole-turn lt)) ∙ keeps)
+
       pub turn-allowed : 2 * i < length plan → Allowed stages n reached (getD plan (2 * i) 0) (getD plan (2 * i + 1) 0)
-      turn-allowed lt = allowed stages n reached _ _ (left-true _ _ (sym (turn-is (whole-turn lt)) ∙ keeps))
+      turn-allowed lt = allowed stages n reached _ _ (turn-allows lt)
 
       pub rest-keeps : 2 * i < length plan
           → keepsFrom stages n (taken reached (getD plan (2 * i) 0) (getD plan (2 * i + 1) 0)) (drop (2 * (i + 1)) plan) ≡ true

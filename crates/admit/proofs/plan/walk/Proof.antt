@@ -1,12 +1,13 @@
 -- `walk` meets its contract. The loop's invariant: the rest of the plan, from where the stages have reached, comes to what the whole plan does (Turning). Assumes nothing.
-use mathlib.Core.Path.{_≡_, refl}
+use mathlib.Core.Path.{_≡_, refl, sym}
 use Prim.Native.Nat.{_*_, _+_, _-_, _/_, _≤_}
 use native.Mathlib.Omega.{arith}
 use lib.ListN.{drop, length}
 use borrow.Author.Needs.{needs}
 use borrow.Author.Tests.{not-false, not-true}
+use Rattle.turns.proofs.Rule.{odd-refused}
 use Rattle.turns.specs.Plan.{keepsFrom}
-use Rattle.admit.proofs.Turning.{odd-plan, plan-ended, turn-refused, turn-taken}
+use Rattle.admit.proofs.Turning.{plan-ended, turn-refused, turn-taken}
 use Rattle.admit.proofs.plan.walk.Statement.{statement}
 use Rattle.admit.proofs.plan.walk.Tie as tie
 
@@ -20,7 +21,7 @@ abbrev μ-loop : tie.MeasureT-loop
 returns : tie.Need-returns Inv-loop μ-loop
 returns c =
     let args = c .before .before .before .args in
-    odd-plan _ (args .n) (args .plan .now) (length (args .plan .now) / 2) (args .reached .now) _ refl refl (omega arith)
+    sym (odd-refused _ (args .n) (args .reached .now) (args .plan .now) (length (args .plan .now) / 2) (omega arith))
 
 loop-holds : tie.Need-loop-holds Inv-loop μ-loop
 loop-holds c = (search needs, search needs, omega arith, search needs, refl)
