@@ -21,10 +21,12 @@ use Rattle.description.specs.Refusals.{refusalOf}
 use Rattle.array.specs.Stages.{Column, stageCount, next, out}
 use Rattle.array.specs.Memories.{memoriesOf}
 use Rattle.array.specs.Lent.{Lent, Given, given}
-use Rattle.array.specs.Turn.{Changing, comes, between, past, standing, TurnDone}
+use Rattle.array.specs.Turn.{Changing, comes, between, past, standing, startOf, TurnDone}
 use Rattle.array.proofs.Turning.{moved, turned}
 use Rattle.array.proofs.Ended.{array-is, head-is, histories-is, positions-is}
-use Rattle.stage.specs.Turns.{Placed, changingOf}
+use Rattle.stage.specs.Turns.{Placed, StageFits, Blocks, changingOf}
+use Rattle.stage.specs.declared.span.Span.{Span}
+use Rattle.description.specs.declared.places.Place.{Place}
 use Rattle.admit.specs.Admits.{Admitted}
 use Rattle.calls.specs.Fit.{Fit, Done}
 
@@ -69,6 +71,14 @@ module _ (b : Lent) where
     columns = λ k t h l q. col-same n e r r′ same t ∙ g .columns k t h (omega (arith, l, same k)) (λ z. omega (arith, q z, same (suc k)));
   }
 
+  histories-size : sizesOf (b .description) .histories ≡ total historiesOf (partsOf (b .description))
+  unfolding sizesOf
+  histories-size = refl
+
+  positions-size : sizesOf (b .description) .positions ≡ total positionsOf (partsOf (b .description))
+  unfolding sizesOf
+  positions-size = refl
+
   -- nothing is taken yet
   abbrev pub atFirst : ℕ → ℕ → ℕ
   atFirst n zero = n
@@ -96,4 +106,91 @@ module _ (b : Lent) where
       where
         first : (t : ℕ) → t < n → cond (ltb t (atFirst n N)) (past (given b) n (changingOf (b .histories) (b .positions) (b .head-out) (b .array-out) (b .scratch)) t)
             (cond (ltb t 0) (between (given b) n (changingOf (b .histories) (b .positions) (b .head-out) (b .array-out) (b .scratch)) t) (comes (given b) n t)) ≡ comes (given b) n t
-        first t h = ?
+        first t h =
+            let e : N ≡ suc (N - 1) = omega arith in
+            let z : atFirst n N ≡ 0 = ap (atFirst n) e in
+            rw (z, le-ltb t 0 (omega arith))
+
+    -- one turn more: stage k took count columns
+    module _ {e e′ : Changing} {reach : ℕ → ℕ} (k from count : ℕ) (way : UnderWay n size e reach) (in-range : k < N) (here : reach (suc k) ≡ from) (allowed : from + count ≤ reach k)
+        (done : TurnDone (given b) n k from count e e′) (placed : Placed d (e′ .positions))
+        (head-long : length (e′ .head-out) ≡ length (e .head-out)) (array-long : length (e′ .array-out) ≡ length (e .array-out)) (scratch-long : length (e′ .scratch) ≡ length (e .scratch)) where
+      goes-on-moved : Good nx ou init (comes (given b) n) N (standing (given b) n e′ (moved reach k (from + count)))
+      unfolding standing
+      goes-on-moved =
+          turn-good nx ou init (comes (given b) n) N k count (standing (given b) n e reach) (standing (given b) n e′ (moved reach k (from + count))) in-range (way .good)
+          (turned (given b) n k from count e e′ reach in-range (way .good .order) (way .all) here allowed
+          (omega (arith, way .histories-long, fit .admitted .histories, whole)) done)
+        where
+          whole : sizesOf (b .description) .histories ≡ total historiesOf (partsOf (b .description))
+          whole = histories-size
+
+      pub goes-on : (reach′ : ℕ → ℕ) → ((j : ℕ) → moved reach k (from + count) j ≡ reach′ j) → UnderWay n size e′ reach′
+      goes-on reach′ same = record {
+        good = good-same n e′ (moved reach k (from + count)) reach′ same goes-on-moved;
+        all = sym (same 0) ∙ not-moved ∙ way .all;
+        placed = placed;
+        histories-long = done .histories-kept .long ∙ way .histories-long;
+        positions-long = done .positions-kept .long ∙ way .positions-long;
+        head-long = head-long ∙ way .head-long;
+        array-long = array-long ∙ way .array-long;
+        scratch-long = scratch-long ∙ way .scratch-long;
+      }
+        where
+          not-moved : moved reach k (from + count) 0 ≡ reach 0
+          not-moved = rw (ne-eqb 0 (suc k) (λ z. omega (arith, z)))
+
+    -- all stages stand at n
+    pub ends : {e : Changing} {reach : ℕ → ℕ} → UnderWay n size e reach → ((k : ℕ) → k ≤ N → reach k ≡ n) → Done b n (e .histories) (e .positions) (e .head-out) (e .array-out)
+    unfolding standing
+    ends {e} {reach} way all =
+        let ended = plan-ends nx ou init (comes (given b) n) N n (standing (given b) n e reach) (way .good) all in
+        record {
+          histories-are = histories-is b n e reach (all N (omega arith)) ended (way .histories-long ∙ fit .admitted .histories ∙ histories-size);
+          positions-are = positions-is b n e reach (all N (omega arith)) ended (way .positions-long ∙ fit .admitted .positions ∙ positions-size);
+          head-is = head-is b n e reach (all N (omega arith)) ended (way .head-long ∙ fit .admitted .head-out);
+          array-is = array-is b n e reach (all N (omega arith)) ended (way .array-long ∙ fit .admitted .array-out);
+        }
+
+    -- the same by another account of how far the stages are
+    pub begins-as : (reach : ℕ → ℕ) → ((j : ℕ) → atFirst n j ≡ reach j)
+        → UnderWay n size (changingOf (b .histories) (b .positions) (b .head-out) (b .array-out) (b .scratch)) reach
+    begins-as reach same = record {
+      good = good-same n (changingOf (b .histories) (b .positions) (b .head-out) (b .array-out) (b .scratch)) (atFirst n) reach same (begins .good);
+      all = sym (same 0);
+      placed = begins .placed;
+      histories-long = refl;
+      positions-long = refl;
+      head-long = refl;
+      array-long = refl;
+      scratch-long = fit .scratch-is;
+    }
+
+    -- what a turn asks, of stage k
+    module _ {e : Changing} {reach : ℕ → ℕ} (way : UnderWay n size e reach) where
+      pub turn-fits : (span : Span) (k : ℕ) {start : Place} → k < N → span .size ≡ size → span .n ≡ n → 0 < span .count → span .from + span .count ≤ n → start ≡ startOf d k
+          → StageFits d span k start (length (b .weights)) (length (e .histories)) (e .positions) (length (e .scratch))
+      unfolding sizesOf
+      turn-fits span k in-range size-is n-is some columns-in start-is = record {
+        sound = fit .admitted .described;
+        stage-in = in-range;
+        some = some;
+        columns-in = omega (arith, columns-in, n-is);
+        few = omega (arith, fit .admitted .columns, n-is);
+        size-is = size-is ∙ fit .size-is ∙ ap (λ (m : ℕ). widestOf d * m) (sym n-is);
+        weights-are = fit .admitted .weights;
+        histories-are = way .histories-long ∙ fit .admitted .histories;
+        positions-are = way .positions-long ∙ fit .admitted .positions;
+        scratch-is = way .scratch-long ∙ ap (λ (m : ℕ). 16 * m) (sym size-is);
+        places = way .placed;
+        start-is = start-is;
+      }
+
+      pub blocks-fit : Blocks d n (b .input) (b .condition) (b .head-in) (e .head-out) (e .array-out)
+      blocks-fit = record {
+        input-is = fit .admitted .input;
+        condition-is = fit .admitted .condition;
+        head-in-is = fit .admitted .head-in;
+        head-out-is = way .head-long ∙ fit .admitted .head-out;
+        array-out-is = way .array-long ∙ fit .admitted .array-out;
+      }
