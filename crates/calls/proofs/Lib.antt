@@ -1,2 +1,3 @@
 pub mod UnderWay
 pub mod InOrder
+pub mod Starting
