@@ -1,3 +1,4 @@
 pub mod UnderWay
 pub mod InOrder
 pub mod Starting
+pub mod ByPlan
