@@ -6,7 +6,7 @@ ghost use lib.ListN.{length};
 ghost use Rattle.turns.specs.Plan.{allAre, allows, keepsFrom, keepsRule, limit, taken};
 
 // The stages of a description with 24 layers.
-const MOST_STAGES: usize = 26;
+pub const MOST_STAGES: usize = 26;
 
 // How far a stage may get: stage 0 to n, any other as far as the stage before it.
 fn furthest(reached: &[usize], n: usize, stage: usize) -> usize

@@ -1,9 +1,10 @@
 -- Where the stages' numbers start, one after the other. Assumes nothing.
 use mathlib.Core.Path.{_≡_, refl, sym, _∙_, ap, subst}
-use mathlib.Core.List.{List}
+use mathlib.Core.List.{List, _∷_}
 use Prim.Native.Nat.{ℕ, zero, suc, _+_, _-_, _*_, _≤_, _<_}
+use native.Mathlib.Nat.{not-suc-le-zero, le-of-suc-le-suc, sub-zero}
 use native.Mathlib.Omega.{arith}
-use lib.ListN.{length, getD, take}
+use lib.ListN.{length, getD, take, replicate, length-replicate}
 use lib.Seq.{take-all}
 use Rattle.lists.specs.Tab.{tab, fill}
 use Rattle.lists.proofs.Fill.{fill-all}
@@ -85,3 +86,18 @@ module _ (d : List ℕ) (ok : refusalOf d ≡ 0) where
 -- a list filled to its end
 pub filled : {l : List ℕ} (old : List ℕ) (k n : ℕ) (f : ℕ → ℕ) → k ≡ n → l ≡ fill 0 k f old → length old ≡ n → l ≡ tab n f
 filled {l} old k n f e is long = is ∙ ap (λ (j : ℕ). fill 0 j f old) e ∙ fill-all 0 n f old long
+
+-- as many zeros as there are stages, of an array of 26
+abbrev zeros : ℕ → List ℕ
+zeros n = replicate n 0
+
+take-zeros : (s m : ℕ) → s ≤ m → take s (zeros m) ≡ zeros s
+take-zeros zero m le = refl
+take-zeros (suc s) zero le = absurd (not-suc-le-zero le)
+take-zeros (suc s) (suc m) le = ap (λ (l : List ℕ). 0 ∷ l) (take-zeros s m (le-of-suc-le-suc le))
+
+pub zeros-cut : (stages n : ℕ) → stages ≡ n → stages ≤ 26 → take (stages - 0) (zeros 26) ≡ zeros n
+zeros-cut stages n is le = rw (sub-zero stages) (take-zeros stages 26 le ∙ ap zeros is)
+
+pub zeros-long : (stages n : ℕ) → stages ≡ n → stages ≤ 26 → length (take (stages - 0) (zeros 26)) ≡ n
+zeros-long stages n is le = ap length (zeros-cut stages n is le) ∙ length-replicate {A = ℕ} n 0
