@@ -1,5 +1,72 @@
 // The calls: a single column, a block, a planned block. Carries process_sample and process_block of array.rs, with checks in front.
 // Document 01, 'Refusal numbers' 1 to 9, 'Plans' and 'What the contracts have to say'.
-pub mod block;
-pub mod planned;
+ghost use Rattle.array.specs.Refusals.{blockRefusal, columnRefusal, plannedRefusal};
+ghost use Rattle.array.specs.Calls.{Answers};
+ghost use Rattle.admit.specs.Admits.{lentOf};
+ghost use Rattle.calls.specs.Fit.{leftOf};
+
+pub mod plans;
+pub mod stages;
 pub mod starts;
+
+use admit::lengths::REGIONS;
+use admit::plan::keeps_rule;
+use description::answers::Checked;
+use description::records::read_array;
+
+// A block of n columns: 0, or the refusal 1 to 8. Scratch is cut to its sixteen regions, so that a longer one is no different.
+pub fn block(
+    description: &[u32],
+    weights: &[f32],
+    histories: &mut [f32],
+    positions: &mut [u32],
+    input: &[f32],
+    condition: &[f32],
+    head_in: &[f32],
+    head_out: &mut [f32],
+    array_out: &mut [f32],
+    scratch: &mut [f32],
+    n: usize,
+) -> u32
+    ensures { λ r. ⌜ Answers (lentOf (now (description .entry)) (now (weights .entry)) (now (histories .entry)) (now (positions .entry)) (now (input .entry)) (now (condition .entry))
+        (now («head_in» .entry)) (now («head_out» .entry)) (now («array_out» .entry)) (now (scratch .entry))) n (blockRefusal (lentOf (now (description .entry)) (now (weights .entry)) (now (histories .entry)) (now (positions .entry)) (now (input .entry)) (now (condition .entry))
+        (now («head_in» .entry)) (now («head_out» .entry)) (now («array_out» .entry)) (now (scratch .entry))) n)
+        (leftOf r (now (histories .exit)) (now (positions .exit)) (now («head_out» .exit)) (now («array_out» .exit)) (now (scratch .exit))) ⌝ }
+{
+    let checked = admit::call(
+        description,
+        weights,
+        histories,
+        positions,
+        input,
+        condition,
+        head_in,
+        head_out,
+        array_out,
+        scratch,
+        n,
+    );
+    let Checked::Sound(sizes) = checked else {
+        return checked.number();
+    };
+    if n == 0 {
+        return 0;
+    }
+    let size = sizes.widest * n;
+    let used = REGIONS * size;
+    stages::stages_in_order(
+        description,
+        weights,
+        histories,
+        positions,
+        input,
+        condition,
+        head_in,
+        head_out,
+        array_out,
+        &mut scratch[0..used],
+        size,
+        n,
+    );
+    0
+}

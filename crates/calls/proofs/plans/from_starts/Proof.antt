@@ -4,58 +4,58 @@ use native.Mathlib.Omega.{arith}
 use lib.ListN.{length, set, take, drop, length-set}
 use lib.Ieee.{Float, nan, binary32, add, mul}
 use borrow.Author.Needs.{needs}
-use Rattle.calls.proofs.planned.from_starts.Statement.{statement}
-use Rattle.calls.proofs.planned.from_starts.Tie as tie
-use Rattle.calls.proofs.planned.from_starts.Reads as reads
-use Rattle.calls.proofs.planned.from_starts.Lts as lts
-use Rattle.calls.proofs.planned.turns_in_order.Reads as turns-in-order-reads
+use Rattle.calls.proofs.plans.from_starts.Statement.{statement}
+use Rattle.calls.proofs.plans.from_starts.Tie as tie
+use Rattle.calls.proofs.plans.from_starts.Reads as reads
+use Rattle.calls.proofs.plans.from_starts.Lts as lts
+use Rattle.calls.proofs.plans.turns_in_order.Reads as turns-in-order-reads
 use Rattle.calls.proofs.starts.starts.Reads as starts-reads
 
--- src/planned.rt:106:5
+-- src/plans.rt:106:5
 starts-requires : tie.Need-starts-requires
 starts-requires c κs = search needs
 
--- src/planned.rt:107:5
+-- src/plans.rt:107:5
 turns-in-order-requires : tie.Need-turns-in-order-requires
 turns-in-order-requires c κs = (c .before .before .before .before .before .before .before .before .before .before .before .before .before .before .before .before .before .before .before .before .before .before .before .before .before .before .before .before .before .before .before .before .before .before .pre .0, (c .before .before .before .before .before .before .before .before .before .before .before .before .before .before .before .before .before .before .before .before .before .before .before .before .before .before .before .before .before .before .before .before .before .before .pre .1 .0, c .before .before .before .before .before .before .before .before .before .before .before .before .before .before .before .starts .ensures))
 
--- src/planned.rt:79:1
+-- src/plans.rt:79:1
 same-length : tie.Need-same-length
 same-length c = search needs
 
--- src/planned.rt:79:1
+-- src/plans.rt:79:1
 same-length-2 : tie.Need-same-length-2
 same-length-2 c = search needs
 
--- src/planned.rt:79:1
+-- src/plans.rt:79:1
 same-length-3 : tie.Need-same-length-3
 same-length-3 c = search needs
 
--- src/planned.rt:79:1
+-- src/plans.rt:79:1
 same-length-4 : tie.Need-same-length-4
 same-length-4 c = search needs
 
--- src/planned.rt:79:1
+-- src/plans.rt:79:1
 same-length-5 : tie.Need-same-length-5
 same-length-5 c = search needs
 
--- src/planned.rt:79:1
+-- src/plans.rt:79:1
 same-length-6 : tie.Need-same-length-6
 same-length-6 c = search needs
 
--- src/planned.rt:79:1
+-- src/plans.rt:79:1
 same-length-7 : tie.Need-same-length-7
 same-length-7 c = search needs
 
--- src/planned.rt:79:1
+-- src/plans.rt:79:1
 same-length-8 : tie.Need-same-length-8
 same-length-8 c = search needs
 
--- src/planned.rt:79:1
+-- src/plans.rt:79:1
 same-length-9 : tie.Need-same-length-9
 same-length-9 c = search needs
 
--- src/planned.rt:79:1
+-- src/plans.rt:79:1
 returns : tie.Need-returns
 returns c = search needs
 
