@@ -25,11 +25,11 @@ use Rattle.array.specs.Stages.{stageCount}
 use Rattle.array.specs.Memories.{memoriesOf}
 use Rattle.array.specs.Planar.{columnsIn, blockOf}
 use Rattle.array.specs.Lent.{Lent, Left}
-use Rattle.array.specs.Refusals.{blockRefusal, plannedRefusal, refused9}
+use Rattle.array.specs.Refusals.{blockRefusal, columnRefusal, plannedRefusal, refused9}
 use Rattle.array.specs.Calls.{statesFrom, columnsFrom, brought, historiesPlayed, positionsPlayed, headPlayed, arrayPlayed, Answers}
 use Rattle.array.proofs.Views.{histories-are, positions-are}
 use Rattle.admit.specs.Admits.{Admits, Admitted}
-use Rattle.admit.proofs.Facts.{sound-only, refused-only, planned-none, nine-exactly-when}
+use Rattle.admit.proofs.Facts.{sound-only, refused-only, planned-none, nine-exactly-when, column-is-block}
 use Rattle.admit.proofs.Letting.{admitted}
 use Rattle.calls.specs.Fit.{Fit, Done, leftOf}
 
@@ -171,3 +171,11 @@ module _ (b : Lent) where
 -- a list cut to its first numbers
 pub cut-long : (used : ℕ) (l : List Float) → used ≤ length l → length (take (used - 0) l) ≡ used
 cut-long used l le = rw (sub-zero used) (length-take-le used l le)
+
+-- a single column is a block of one
+pub column-as : (b : Lent) {e : Left} → Answers b 1 (blockRefusal b 1) e → Answers b 1 (columnRefusal b) e
+column-as b {e} = subst (λ (q : ℕ). Answers b 1 q e) (sym (column-is-block b))
+
+-- what the plan's check told, of as many stages as there are
+pub rule-told : (n : ℕ) (plan : List ℕ) {stages : ℕ} {told v : Bool} (N : ℕ) → stages ≡ N → told ≡ keepsRule stages n plan → told ≡ v → keepsRule N n plan ≡ v
+rule-told n plan N is e t = ap (λ (k : ℕ). keepsRule k n plan) (sym is) ∙ sym e ∙ t
