@@ -17,8 +17,18 @@ fn row(dst: &mut [f32], src: &[f32], to: usize, from: usize, m: usize)
     }
 }
 
-// m columns of w rows: from rows that are n apart to rows that are s apart, from one buffer to another.
-pub fn columns(
+// One column of w rows, from one buffer to another: a loop of its own, as a loop within a loop costs more than the one number that it would carry.
+fn column(dst: &mut [f32], src: &[f32], to: usize, s: usize, from: usize, n: usize, w: usize)
+    requires { ⌜ (to + 1 + w * s ≤ length (now dst) + s) × (from + 1 + w * n ≤ length (now src) + n) × (1 ≤ s) × (1 ≤ n) ⌝ }
+    ensures { λ _. ⌜ now (dst .exit) ≡ rows to s 1 w (λ c t. at (now (src .entry)) (from + c * n + t)) (now (dst .entry)) ⌝ }
+{
+    for c in 0..w {
+        dst[to + c * s] = src[from + c * n];
+    }
+}
+
+// m columns of w rows, row by row: from rows that are n apart to rows that are s apart, from one buffer to another.
+fn row_by_row(
     dst: &mut [f32],
     src: &[f32],
     to: usize,
@@ -38,6 +48,30 @@ pub fn columns(
     }
 }
 
+// m columns of w rows: from rows that are n apart to rows that are s apart, from one buffer to another.
+// The rows lie end to end where these are all columns of both buffers: then they are one row.
+pub fn columns(
+    dst: &mut [f32],
+    src: &[f32],
+    to: usize,
+    s: usize,
+    from: usize,
+    n: usize,
+    w: usize,
+    m: usize,
+)
+    requires { ⌜ (to + m + w * s ≤ length (now dst) + s) × (from + m + w * n ≤ length (now src) + n) × (m ≤ s) × (m ≤ n) ⌝ }
+    ensures { λ _. ⌜ now (dst .exit) ≡ rows to s m w (λ c t. at (now (src .entry)) (from + c * n + t)) (now (dst .entry)) ⌝ }
+{
+    if m == s && m == n {
+        row(dst, src, to, from, w * m);
+    } else if m == 1 {
+        column(dst, src, to, s, from, n, w);
+    } else {
+        row_by_row(dst, src, to, s, from, n, w, m);
+    }
+}
+
 // to[t] = from[t], within one buffer.
 fn row_within(work: &mut [f32], to: usize, from: usize, m: usize)
     requires { ⌜ (to + m ≤ length (now work)) × (from + m ≤ length (now work)) × Apart to m from m ⌝ }
@@ -48,8 +82,18 @@ fn row_within(work: &mut [f32], to: usize, from: usize, m: usize)
     }
 }
 
-// m columns of w rows within one buffer, from rows that are n apart to rows that are s apart.
-pub fn columns_within(
+// One column of w rows, within one buffer: a loop of its own, as a loop within a loop costs more than the one number that it would carry.
+fn column_within(work: &mut [f32], to: usize, s: usize, from: usize, n: usize, w: usize)
+    requires { ⌜ (to + 1 + w * s ≤ length (now work) + s) × (from + 1 + w * n ≤ length (now work) + n) × (1 ≤ s) × (1 ≤ n) × Apart to (w * s) from (w * n) ⌝ }
+    ensures { λ _. ⌜ now (work .exit) ≡ rows to s 1 w (λ c t. at (now (work .entry)) (from + c * n + t)) (now (work .entry)) ⌝ }
+{
+    for c in 0..w {
+        work[to + c * s] = work[from + c * n];
+    }
+}
+
+// m columns of w rows, row by row: from rows that are n apart to rows that are s apart, within one buffer.
+fn row_by_row_within(
     work: &mut [f32],
     to: usize,
     s: usize,
@@ -65,6 +109,29 @@ pub fn columns_within(
         let a = to + c * s;
         let b = from + c * n;
         row_within(work, a, b, m);
+    }
+}
+
+// m columns of w rows: from rows that are n apart to rows that are s apart, within one buffer.
+// The rows lie end to end where these are all columns of both places: then they are one row.
+pub fn columns_within(
+    work: &mut [f32],
+    to: usize,
+    s: usize,
+    from: usize,
+    n: usize,
+    w: usize,
+    m: usize,
+)
+    requires { ⌜ (to + m + w * s ≤ length (now work) + s) × (from + m + w * n ≤ length (now work) + n) × (m ≤ s) × (m ≤ n) × Apart to (w * s) from (w * n) ⌝ }
+    ensures { λ _. ⌜ now (work .exit) ≡ rows to s m w (λ c t. at (now (work .entry)) (from + c * n + t)) (now (work .entry)) ⌝ }
+{
+    if m == s && m == n {
+        row_within(work, to, from, w * m);
+    } else if m == 1 {
+        column_within(work, to, s, from, n, w);
+    } else {
+        row_by_row_within(work, to, s, from, n, w, m);
     }
 }
 

@@ -1,8 +1,8 @@
+use borrow.Author.Tests.{eqb-true}
 use Prim.Native.Nat.{min, max}
-use Rattle.lists.proofs.Rows.{rows-none, rows-more, length-rows, at-rows-out}
-use Rattle.lists.proofs.Nums.{row-end}
 use Rattle.lists.specs.Region.{Apart}
 use Rattle.lists.specs.Tab.{at, fill, rows}
+use Rattle.carry.proofs.Joined.{joined}
 use mathlib.Core.Path.{_≡_, refl, sym, _∙_, ap}
 use Prim.Native.Nat.{ℕ, _+_, _*_, _-_, _/_, _%_, _≤_, _<_}
 use native.Mathlib.Omega.{arith}
@@ -13,73 +13,64 @@ use Rattle.carry.proofs.columns.Statement.{statement}
 use Rattle.carry.proofs.columns.Tie as tie
 use Rattle.carry.proofs.columns.Reads as reads
 use Rattle.carry.proofs.columns.Lts as lts
+use Rattle.carry.proofs.column.Reads as column-reads
 use Rattle.carry.proofs.row.Reads as row-reads
+use Rattle.carry.proofs.row_by_row.Reads as row-by-row-reads
 
-abbrev Inv-loop : tie.InvT-loop
-Inv-loop dst₀ src to s from n w m c₀ dst c =
-    (c ≤ w) × (length dst ≡ length dst₀) × (dst ≡ rows to s m c (λ c t. at src (from + c * n + t)) dst₀)
+-- src/lib.rt:67:33
+mul-row : tie.Need-mul-row
+mul-row c = let hs : c .before .before .before .before .before .args .m ≡ c .before .before .before .before .before .args .s = omega arith in let hn : c .before .before .before .before .before .args .m ≡ c .before .before .before .before .before .args .n = eqb-true _ _ (c .before .if2 .taken) in
+    let p = rw (← hs, ← hn) at (c .before .before .before .before .before .pre) in record { fits = omega (arith, p) }
 
-abbrev μ-loop : tie.MeasureT-loop
-μ-loop dst₀ src to s from n w m c₀ dst c = w - c
+-- src/lib.rt:67:9
+row-requires : tie.Need-row-requires
+row-requires c κs = let hs : c .before .before .before .before .before .args .m ≡ c .before .before .before .before .before .args .s = omega arith in let hn : c .before .before .before .before .before .args .m ≡ c .before .before .before .before .before .args .n = eqb-true _ _ (c .before .if2 .taken) in
+    let p = rw (← hs, ← hn) at (c .before .before .before .before .before .pre) in (omega (arith, p), omega (arith, p))
 
--- src/lib.rt:34:5
-loop-holds : tie.Need-loop-holds Inv-loop μ-loop
-loop-holds c = (search needs, search needs, rows-none _ _ _ _ _)
+-- src/lib.rt:69:9
+column-requires : tie.Need-column-requires
+column-requires c κs = search needs
 
--- src/lib.rt:35:22
-mul-a : tie.Need-mul-a Inv-loop μ-loop
-mul-a c = record { fits = omega (arith, row-end (c .before .loop .c) (c .before .before .before .before .args .w) (c .before .before .before .before .args .s) (c .loop-test .taken), row-end (c .before .loop .c) (c .before .before .before .before .args .w) (c .before .before .before .before .args .n) (c .loop-test .taken), c .before .before .before .before .pre) }
+-- src/lib.rt:71:9
+row-by-row-requires : tie.Need-row-by-row-requires
+row-by-row-requires c κs = search needs
 
--- src/lib.rt:35:17
-add-a : tie.Need-add-a Inv-loop μ-loop
-add-a c = record { fits = omega (arith, row-end (c .before .loop .c) (c .before .before .before .before .args .w) (c .before .before .before .before .args .s) (c .loop-test .taken), row-end (c .before .loop .c) (c .before .before .before .before .args .w) (c .before .before .before .before .args .n) (c .loop-test .taken), c .before .before .before .before .pre) }
-
--- src/lib.rt:36:24
-mul-b : tie.Need-mul-b Inv-loop μ-loop
-mul-b c = record { fits = omega (arith, row-end (c .before .loop .c) (c .before .before .before .before .args .w) (c .before .before .before .before .args .s) (c .loop-test .taken), row-end (c .before .loop .c) (c .before .before .before .before .args .w) (c .before .before .before .before .args .n) (c .loop-test .taken), c .before .before .before .before .pre) }
-
--- src/lib.rt:36:17
-add-b : tie.Need-add-b Inv-loop μ-loop
-add-b c = record { fits = omega (arith, row-end (c .before .loop .c) (c .before .before .before .before .args .w) (c .before .before .before .before .args .s) (c .loop-test .taken), row-end (c .before .loop .c) (c .before .before .before .before .args .w) (c .before .before .before .before .args .n) (c .loop-test .taken), c .before .before .before .before .pre) }
-
--- src/lib.rt:37:9
-row-requires : tie.Need-row-requires Inv-loop μ-loop
-row-requires c κs = (omega (arith, row-end (c .before .before .loop .c) (c .before .before .before .before .before .args .w) (c .before .before .before .before .before .args .s) (c .before .loop-test .taken), c .before .before .before .before .before .pre), omega (arith, row-end (c .before .before .loop .c) (c .before .before .before .before .before .args .w) (c .before .before .before .before .before .args .n) (c .before .loop-test .taken), c .before .before .before .before .before .pre))
-
--- src/lib.rt:34:9
-add-c : tie.Need-add-c Inv-loop μ-loop
-add-c c = search needs
-
--- src/lib.rt:34:5
-loop-less : tie.Need-loop-less Inv-loop μ-loop
-loop-less c = search needs
-
--- src/lib.rt:34:5
-loop-again : tie.Need-loop-again Inv-loop μ-loop
-loop-again c = (search needs, omega (arith, c .before .before .row .kept .0), rows-more _ _ _ _ _ _ _ _ _ (c .before .before .before .before .before .loop .inv .2) (c .before .before .row .ensures) (λ t h. refl))
-
--- src/lib.rt:21:1
-same-length : tie.Need-same-length Inv-loop μ-loop
+-- src/lib.rt:53:1
+same-length : tie.Need-same-length
 same-length c = search needs
 
--- src/lib.rt:21:1
-returns : tie.Need-returns Inv-loop μ-loop
-returns c = let e : c .before .loop .c ≡ c .before .before .before .before .args .w = omega arith in rw e at (c .before .loop .inv .2)
+-- src/lib.rt:53:1
+returns : tie.Need-returns
+returns c = let hs : c .before .before .before .before .before .before .before .before .args .m ≡ c .before .before .before .before .before .before .before .before .args .s = omega arith in let hn : c .before .before .before .before .before .before .before .before .args .m ≡ c .before .before .before .before .before .before .before .before .args .n = eqb-true _ _ (c .before .before .before .before .if2 .taken) in
+    joined (c .before .before .before .before .before .before .before .before .args .to) (c .before .before .before .before .before .before .before .before .args .s) (c .before .before .before .before .before .before .before .before .args .m) (c .before .before .before .before .before .before .before .before .args .from) (c .before .before .before .before .before .before .before .before .args .n) (c .before .before .before .before .before .before .before .before .args .w) (c .before .before .before .before .before .before .before .before .args .src .now) _ _ hs hn (c .before .before .row .ensures)
+
+-- src/lib.rt:53:1
+same-length-2 : tie.Need-same-length-2
+same-length-2 c = search needs
+
+-- src/lib.rt:53:1
+returns-2 : tie.Need-returns-2
+returns-2 c = let h : c .before .before .before .before .before .before .before .before .args .m ≡ 1 = omega arith in rw h (c .before .before .column .ensures)
+
+-- src/lib.rt:53:1
+same-length-3 : tie.Need-same-length-3
+same-length-3 c = search needs
+
+-- src/lib.rt:53:1
+returns-3 : tie.Need-returns-3
+returns-3 c = search needs
 
 pub columns-spec : {M : Type 1} → statement M
 columns-spec =
     tie.close
     (tie.spec
-    Inv-loop
-    μ-loop
-    loop-holds
-    mul-a
-    add-a
-    mul-b
-    add-b
+    mul-row
     row-requires
-    add-c
-    loop-less
-    loop-again
+    column-requires
+    row-by-row-requires
     same-length
-    returns)
+    returns
+    same-length-2
+    returns-2
+    same-length-3
+    returns-3)

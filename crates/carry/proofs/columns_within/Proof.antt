@@ -1,9 +1,8 @@
-use Rattle.carry.proofs.Read.{old-there}
+use borrow.Author.Tests.{eqb-true}
 use Prim.Native.Nat.{min, max}
-use Rattle.lists.proofs.Rows.{rows-none, rows-more, length-rows, at-rows-out}
-use Rattle.lists.proofs.Nums.{row-end}
 use Rattle.lists.specs.Region.{Apart}
 use Rattle.lists.specs.Tab.{at, fill, rows}
+use Rattle.carry.proofs.Joined.{joined}
 use mathlib.Core.Path.{_≡_, refl, sym, _∙_, ap}
 use Prim.Native.Nat.{ℕ, _+_, _*_, _-_, _/_, _%_, _≤_, _<_}
 use native.Mathlib.Omega.{arith}
@@ -14,84 +13,64 @@ use Rattle.carry.proofs.columns_within.Statement.{statement}
 use Rattle.carry.proofs.columns_within.Tie as tie
 use Rattle.carry.proofs.columns_within.Reads as reads
 use Rattle.carry.proofs.columns_within.Lts as lts
+use Rattle.carry.proofs.column_within.Reads as column-within-reads
+use Rattle.carry.proofs.row_by_row_within.Reads as row-by-row-within-reads
 use Rattle.carry.proofs.row_within.Reads as row-within-reads
 
-abbrev Inv-loop : tie.InvT-loop
-Inv-loop work₀ to s from n w m c₀ work c =
-    (c ≤ w) × (length work ≡ length work₀) × (to + m + w * s ≤ length work₀ + s) × (from + m + w * n ≤ length work₀ + n) × (m ≤ s) × (m ≤ n)
-    × Apart to (w * s) from (w * n) × (work ≡ rows to s m c (λ c t. at work₀ (from + c * n + t)) work₀)
+-- src/lib.rt:130:36
+mul-row-within : tie.Need-mul-row-within
+mul-row-within c = let hs : c .before .before .before .before .args .m ≡ c .before .before .before .before .args .s = omega arith in let hn : c .before .before .before .before .args .m ≡ c .before .before .before .before .args .n = eqb-true _ _ (c .before .if2 .taken) in
+    let p = rw (← hs, ← hn) at (c .before .before .before .before .pre) in record { fits = omega (arith, p) }
 
-abbrev μ-loop : tie.MeasureT-loop
-μ-loop work₀ to s from n w m c₀ work c = w - c
+-- src/lib.rt:130:9
+row-within-requires : tie.Need-row-within-requires
+row-within-requires c κs = let hs : c .before .before .before .before .args .m ≡ c .before .before .before .before .args .s = omega arith in let hn : c .before .before .before .before .args .m ≡ c .before .before .before .before .args .n = eqb-true _ _ (c .before .if2 .taken) in
+    let p = rw (← hs, ← hn) at (c .before .before .before .before .pre) in (omega (arith, p), omega (arith, p), omega (arith, p))
 
--- src/lib.rt:64:5
-loop-holds : tie.Need-loop-holds Inv-loop μ-loop
-loop-holds c = (search needs, search needs, search needs, search needs, search needs, search needs, search needs, rows-none _ _ _ _ _)
+-- src/lib.rt:132:9
+column-within-requires : tie.Need-column-within-requires
+column-within-requires c κs = search needs
 
--- src/lib.rt:65:22
-mul-a : tie.Need-mul-a Inv-loop μ-loop
-mul-a c = record { fits = omega (arith, row-end (c .before .loop .c) (c .before .before .before .args .w) (c .before .before .before .args .s) (c .loop-test .taken), row-end (c .before .loop .c) (c .before .before .before .args .w) (c .before .before .before .args .n) (c .loop-test .taken)) }
+-- src/lib.rt:134:9
+row-by-row-within-requires : tie.Need-row-by-row-within-requires
+row-by-row-within-requires c κs = search needs
 
--- src/lib.rt:65:17
-add-a : tie.Need-add-a Inv-loop μ-loop
-add-a c = record { fits = omega (arith, row-end (c .before .loop .c) (c .before .before .before .args .w) (c .before .before .before .args .s) (c .loop-test .taken), row-end (c .before .loop .c) (c .before .before .before .args .w) (c .before .before .before .args .n) (c .loop-test .taken)) }
-
--- src/lib.rt:66:24
-mul-b : tie.Need-mul-b Inv-loop μ-loop
-mul-b c = record { fits = omega (arith, row-end (c .before .loop .c) (c .before .before .before .args .w) (c .before .before .before .args .s) (c .loop-test .taken), row-end (c .before .loop .c) (c .before .before .before .args .w) (c .before .before .before .args .n) (c .loop-test .taken)) }
-
--- src/lib.rt:66:17
-add-b : tie.Need-add-b Inv-loop μ-loop
-add-b c = record { fits = omega (arith, row-end (c .before .loop .c) (c .before .before .before .args .w) (c .before .before .before .args .s) (c .loop-test .taken), row-end (c .before .loop .c) (c .before .before .before .args .w) (c .before .before .before .args .n) (c .loop-test .taken)) }
-
--- src/lib.rt:67:9
-row-within-requires : tie.Need-row-within-requires Inv-loop μ-loop
-row-within-requires c κs = (omega (arith, row-end (c .before .before .loop .c) (c .before .before .before .before .args .w) (c .before .before .before .before .args .s) (c .before .loop-test .taken)), omega (arith, row-end (c .before .before .loop .c) (c .before .before .before .before .args .w) (c .before .before .before .before .args .n) (c .before .loop-test .taken)), omega (arith, row-end (c .before .before .loop .c) (c .before .before .before .before .args .w) (c .before .before .before .before .args .s) (c .before .loop-test .taken), row-end (c .before .before .loop .c) (c .before .before .before .before .args .w) (c .before .before .before .before .args .n) (c .before .loop-test .taken), c .before .before .loop .inv .6))
-
--- src/lib.rt:64:9
-add-c : tie.Need-add-c Inv-loop μ-loop
-add-c c = search needs
-
--- src/lib.rt:64:5
-loop-less : tie.Need-loop-less Inv-loop μ-loop
-loop-less c = search needs
-
--- src/lib.rt:64:5
-loop-again : tie.Need-loop-again Inv-loop μ-loop
-loop-again c = let e = c .before .before .before .before .before .loop .inv .7 in
-    let n = row-end (c .before .before .before .before .before .loop .c) (c .before .before .before .before .before .before .before .args .w) (c .before .before .before .before .before .before .before .args .n) (c .before .before .before .before .loop-test .taken) in (
-      search needs,
-      omega (arith, c .before .before .row-within .kept .0),
-      search needs,
-      search needs,
-      search needs,
-      search needs,
-      search needs,
-      rows-more _ _ _ _ _ _ _ _ _ e (c .before .before .row-within .ensures) (λ t h. old-there (c .before .before .before .before .before .before .before .args .to) (c .before .before .before .before .before .before .before .args .s) (c .before .before .before .before .before .before .before .args .m) (c .before .before .before .before .before .before .before .args .from) (c .before .before .before .before .before .before .before .args .n) (c .before .before .before .before .before .before .before .args .w) (c .before .before .before .before .before .loop .c) t _ _ _ e (c .before .before .before .before .loop-test .taken) h (c .before .before .before .before .before .loop .inv .4) (c .before .before .before .before .before .loop .inv .5) (c .before .before .before .before .before .loop .inv .6)),
-    )
-
--- src/lib.rt:52:1
-same-length : tie.Need-same-length Inv-loop μ-loop
+-- src/lib.rt:117:1
+same-length : tie.Need-same-length
 same-length c = search needs
 
--- src/lib.rt:52:1
-returns : tie.Need-returns Inv-loop μ-loop
-returns c = let e : c .before .loop .c ≡ c .before .before .before .args .w = omega arith in rw e at (c .before .loop .inv .7)
+-- src/lib.rt:117:1
+returns : tie.Need-returns
+returns c = let hs : c .before .before .before .before .before .before .before .args .m ≡ c .before .before .before .before .before .before .before .args .s = omega arith in let hn : c .before .before .before .before .before .before .before .args .m ≡ c .before .before .before .before .before .before .before .args .n = eqb-true _ _ (c .before .before .before .before .if2 .taken) in
+    joined (c .before .before .before .before .before .before .before .args .to) (c .before .before .before .before .before .before .before .args .s) (c .before .before .before .before .before .before .before .args .m) (c .before .before .before .before .before .before .before .args .from) (c .before .before .before .before .before .before .before .args .n) (c .before .before .before .before .before .before .before .args .w) (c .before .before .before .before .before .before .before .args .work .now) _ _ hs hn (c .before .before .row-within .ensures)
+
+-- src/lib.rt:117:1
+same-length-2 : tie.Need-same-length-2
+same-length-2 c = search needs
+
+-- src/lib.rt:117:1
+returns-2 : tie.Need-returns-2
+returns-2 c = let h : c .before .before .before .before .before .before .before .args .m ≡ 1 = omega arith in rw h (c .before .before .column-within .ensures)
+
+-- src/lib.rt:117:1
+same-length-3 : tie.Need-same-length-3
+same-length-3 c = search needs
+
+-- src/lib.rt:117:1
+returns-3 : tie.Need-returns-3
+returns-3 c = search needs
 
 pub columns-within-spec : {M : Type 1} → statement M
 columns-within-spec =
     tie.close
     (tie.spec
-    Inv-loop
-    μ-loop
-    loop-holds
-    mul-a
-    add-a
-    mul-b
-    add-b
+    mul-row-within
     row-within-requires
-    add-c
-    loop-less
-    loop-again
+    column-within-requires
+    row-by-row-within-requires
     same-length
-    returns)
+    returns
+    same-length-2
+    returns-2
+    same-length-3
+    returns-3)
