@@ -1,0 +1,2 @@
+mod Unpacking
+mod Heading
