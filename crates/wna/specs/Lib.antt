@@ -1,2 +1,3 @@
 pub mod Header
+pub mod Opening
 pub mod Words
