@@ -1,3 +1,4 @@
+pub mod Order
 mod Taken
 mod Unpacking
 mod Heading
