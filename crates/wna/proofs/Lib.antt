@@ -1,3 +1,4 @@
+mod Writing
 pub mod Order
 mod Taken
 mod Unpacking

@@ -2,4 +2,5 @@
 // buffers, how many columns to play, and the lines that are printed. Document 01, 'The program'.
 pub mod header;
 pub mod opening;
+pub mod text;
 pub mod words;
