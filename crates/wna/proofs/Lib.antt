@@ -1,3 +1,4 @@
+mod Lining
 mod Writing
 pub mod Order
 mod Taken

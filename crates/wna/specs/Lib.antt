@@ -1,4 +1,5 @@
 pub mod Header
+pub mod Lines
 pub mod Opening
 pub mod Text
 pub mod Words

@@ -40,14 +40,22 @@ lineOf index values = decimalOf index ++ (valuesText values ++ (10 ∷ []))
 unfoldable pub columnOf : ℕ → ℕ → ℕ → List Float → List Float
 columnOf n t w l = tab w (λ c. at l (c * n + t))
 
+-- what a column prints: its head outputs, and then its array outputs
+unfoldable pub outputsOf : ℕ → ℕ → List Float → ℕ → List Float → ℕ → List Float
+outputsOf n heads head arrays array t = columnOf n t heads head ++ columnOf n t arrays array
+
 -- the lines of m columns, the first of which has this index
 unfoldable pub linesOf : ℕ → (ℕ → List Float) → ℕ → List ℕ
 linesOf first column zero = []
 linesOf first column (suc m) = linesOf first column m ++ lineOf (first + m) (column m)
 
+-- a line of some text and a number
+unfoldable pub namedOf : List ℕ → ℕ → List ℕ
+namedOf text n = text ++ (decimalOf n ++ (10 ∷ []))
+
 -- the last line: `end` and the count of columns, or `refused` and the number
 unfoldable pub lastOf : ℕ → ℕ → List ℕ
 lastOf number count =
     cond (eqb number 0)
-    (101 ∷ 110 ∷ 100 ∷ 32 ∷ (decimalOf count ++ (10 ∷ [])))
-    (114 ∷ 101 ∷ 102 ∷ 117 ∷ 115 ∷ 101 ∷ 100 ∷ 32 ∷ (decimalOf number ++ (10 ∷ [])))
+    (namedOf (101 ∷ 110 ∷ 100 ∷ 32 ∷ []) count)
+    (namedOf (114 ∷ 101 ∷ 102 ∷ 117 ∷ 115 ∷ 101 ∷ 100 ∷ 32 ∷ []) number)
