@@ -1,3 +1,4 @@
+pub mod Planar
 mod Lining
 mod Writing
 pub mod Order
