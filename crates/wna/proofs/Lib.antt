@@ -1,3 +1,4 @@
+pub mod Streaming
 pub mod Planar
 mod Lining
 mod Writing
