@@ -1,7 +1,5 @@
 pub mod Streaming
 pub mod Planar
-mod Lining
-mod Writing
 pub mod Order
 mod Taken
 mod Unpacking
