@@ -1,3 +1,4 @@
+pub mod Facts
 pub mod Streaming
 pub mod Planar
 pub mod Order
