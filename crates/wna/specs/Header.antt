@@ -2,7 +2,7 @@
 use mathlib.Core.Path.{_≡_}
 use mathlib.Core.Bool.{Bool, cond, not, _||_}
 use mathlib.Core.List.{List, [], _∷_}
-use Prim.Native.Nat.{ℕ}
+use Prim.Native.Nat.{ℕ, _≤_}
 use lib.Dec.{eqb, ltb}
 use lib.ListN.{getD, length}
 use Rattle.wna.specs.Words.{halfAt, wordAt}
@@ -57,3 +57,9 @@ headerValues (Whole h) = h .block ∷ h .count ∷ h .columns ∷ []
 pub record HeaderAnswers (f : List ℕ) (r : HeaderAnswer) : Type 0 where
   pub number : headerNumber r ≡ headerRefusal f
   pub values : headerValues r ≡ cond (eqb (headerRefusal f) 0) (blockOf f ∷ countOf f ∷ columnsOf f ∷ []) []
+
+-- what the rest of the program may count on
+pub record LowHeader (h : Header) : Type 0 where
+  pub some : 1 ≤ h .block
+  pub largest : h .block ≤ 1024
+  pub numbers : h .count ≤ mostNumbers

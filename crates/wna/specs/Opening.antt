@@ -3,7 +3,7 @@
 use mathlib.Core.Path.{_≡_}
 use mathlib.Core.Bool.{Bool, cond, not, _||_}
 use mathlib.Core.List.{List, []}
-use Prim.Native.Nat.{ℕ, _+_, _*_}
+use Prim.Native.Nat.{ℕ, _+_, _*_, _≤_}
 use lib.Dec.{eqb, ltb}
 use lib.Ieee.{Float}
 use lib.ListN.{drop, length}
@@ -52,6 +52,14 @@ pub record Described (numbers f : List ℕ) (block : ℕ) (r : Checked) (numbers
   pub number : numberOf r ≡ descriptionRefusal (length numbers) f block
   pub values : valuesOf r ≡ cond (eqb (numberOf r) 0) (listed (sizesOf (wordsOf (length numbers) f))) []
   pub unpacked : numbers′ ≡ cond (shortFor (length numbers) f) numbers (wordsOf (length numbers) f)
+
+-- what the rest of the program may count on where nothing is refused: the sizes are the description's, and there is room
+pub record Opened (d : List ℕ) (s : Sizes) (block : ℕ) : Type 0 where
+  pub sound : refusalOf d ≡ 0
+  pub sizes : s ≡ sizesOf d
+  pub weights : s .weights ≤ 16384
+  pub histories : s .histories ≤ 16384
+  pub planar : s .widest * block ≤ 1024
 
 -- and of the weights: the answer is 10 or 0
 pub record Weighed (weights : List Float) (f : List ℕ) (r : ℕ) (weights′ : List Float) : Type 0 where

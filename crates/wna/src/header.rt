@@ -14,7 +14,7 @@ pub const HEADER_LENGTH: usize = 15;
 pub struct Header {
     pub block: usize,
     pub count: usize,
-    pub columns: usize,
+    pub columns: u32,
 }
 
 // A header's reading: its refusal number, 10 or 11, or its numbers.
@@ -56,6 +56,6 @@ pub fn read_header(bytes: &[u8]) -> HeaderAnswer
     HeaderAnswer::Whole(Header {
         block,
         count,
-        columns: word(bytes, 11),
+        columns: word(bytes, 11) as u32,
     })
 }

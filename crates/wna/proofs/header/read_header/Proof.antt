@@ -72,6 +72,9 @@ returns-8 c = crowded (c .before .before .before .before .before .before .before
 word-requires-2 : tie.Need-word-requires-2
 word-requires-2 c κs = search needs
 
+cast-t10 : tie.Need-cast-t10
+cast-t10 c = omega (arith, c .word2 .ensures .1)
+
 -- src/header.rt:27:1
 returns-9 : tie.Need-returns-9
 returns-9 c = whole (c .before .before .before .before .before .before .before .before .before .before .before .before .before .before .before .before .args .bytes .now) (c .before .before .before .before .before .before .before .before .before .before .before .before .before .before .if1 .left) (ours (c .before .before .before .before .before .before .before .before .before .before .before .before .before .before .before .before .args .bytes .now) (c .before .before .before .before .before .before .before .before .before .before .before .before .if2 .left) (c .before .before .before .before .before .before .before .before .before .before .if3 .left) (c .before .before .before .before .before .before .before .before .if4 .left)) (sym (c .before .before .before .before .before .before .before .half .ensures .0) ∙ c .before .before .before .before .before .before .if5 .left) (λ e. c .before .before .before .before .if6 .left (c .before .before .before .before .before .half2 .ensures .0 ∙ e)) (rw (c .before .before .before .before .before .half2 .ensures .0) at (c .before .before .before .if7 .left)) (rw (c .before .before .word .ensures .0) at (c .before .if8 .left)) _ (c .before .before .before .before .before .half2 .ensures .0) (c .before .before .word .ensures .0) (c .word2 .ensures .0)
@@ -95,4 +98,5 @@ read-header-spec =
     word-requires
     returns-8
     word-requires-2
+    cast-t10
     returns-9)
