@@ -16,7 +16,7 @@ use Rattle.lists.specs.Tab.{at, fill, tab}
 use Rattle.lists.proofs.Tab.{length-tab}
 use Rattle.lists.proofs.Fill.{fill-join}
 use Rattle.lists.proofs.Nums.{le-or-lt}
-use Rattle.lines.specs.Text.{columnOf, decimalIn, decimalOf, hexDigit, hexOf, lineOf, linesOf, spacedOf, valuesText}
+use Rattle.lines.specs.Text.{columnOf, decimalBy, decimalOf, hexDigit, hexOf, lineOf, linesOf, spacedOf, valuesText}
 
 -- one run after another is their joined run
 pub sets-append : {A : Type 0} (l : List A) (i : ℕ) (xs ys : List A) → sets (sets l i xs) (i + length xs) ys ≡ sets l i (xs ++ ys)
@@ -39,17 +39,18 @@ fill-sets a (suc n) f old = first a n f old ∙ fill-sets (suc a) n (λ i. f (su
     first a (suc n) f old = rw (first a n f old, add-suc a n, sym (suc-add a n))
 
 -- ---- decimal
-small : (k n : ℕ) → n < 10 → decimalIn k n ≡ (48 + n) ∷ []
-unfolding decimalIn
+small : (k n : ℕ) → n < 10 → decimalBy k (ltb n 10) n ≡ (48 + n) ∷ []
+unfolding decimalBy
 small zero n h = let e : n % 10 ≡ n = omega arith in rw e
 small (suc k) n h = rw (lt-ltb n 10 h)
 
 -- more places than enough change nothing
-places : (j k n : ℕ) → n ≤ j → n ≤ k → decimalIn j n ≡ decimalIn k n
-unfolding decimalIn
+places : (j k n : ℕ) → n ≤ j → n ≤ k → decimalBy j (ltb n 10) n ≡ decimalBy k (ltb n 10) n
+unfolding decimalBy
 places zero k n hj hk = small 0 n (omega arith) ∙ sym (small k n (omega arith))
 places (suc j) zero n hj hk = small (suc j) n (omega arith) ∙ sym (small 0 n (omega arith))
-places (suc j) (suc k) n hj hk = ⊎-elim
+places (suc j) (suc k) n hj hk =
+    ⊎-elim
     (λ le. rw (le-ltb n 10 le, places j k (n / 10) (omega arith) (omega arith)))
     (λ lt. small (suc j) n lt ∙ sym (small (suc k) n lt))
     (le-or-lt 10 n)
@@ -58,8 +59,8 @@ pub decimal-small : (n : ℕ) → n < 10 → decimalOf n ≡ (48 + n) ∷ []
 unfolding decimalOf
 decimal-small n h = small n n h
 
-in-more : (k n : ℕ) → n ≤ k → 10 ≤ n → decimalIn k n ≡ decimalOf (n / 10) ++ (48 + n % 10) ∷ []
-unfolding decimalIn decimalOf
+in-more : (k n : ℕ) → n ≤ k → 10 ≤ n → decimalBy k (ltb n 10) n ≡ decimalOf (n / 10) ++ (48 + n % 10) ∷ []
+unfolding decimalBy decimalOf
 in-more zero n hk h = absurd (omega arith)
 in-more (suc k) n hk h = rw (le-ltb n 10 h, places k (n / 10) (n / 10) (omega arith) (omega arith))
 

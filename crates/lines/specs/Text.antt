@@ -1,6 +1,6 @@
 -- What is printed, as bytes. Document 01, 'The program': "Each whole column prints index (decimal), head outputs, array outputs, as 8 lowercase hex
 -- digits, NaN as 7fc00000, one space between. Last line: `end` and the count, or `refused` and the number". Every line ends in a newline.
-use mathlib.Core.Bool.{cond}
+use mathlib.Core.Bool.{Bool, true, false, cond}
 use mathlib.Core.List.{List, [], _∷_, _++_}
 use Prim.Native.Nat.{ℕ, zero, suc, _+_, _-_, _*_, _/_, _%_, _^_}
 use lib.Dec.{eqb, ltb}
@@ -15,14 +15,15 @@ hexDigit d = cond (ltb d 10) (48 + d) (87 + d)
 unfoldable pub hexOf : ℕ → List ℕ
 hexOf v = tab 8 (λ i. hexDigit (v / 2 ^ (28 - 4 * i) % 16))
 
--- the decimal digits of n in at most k + 1 places: those of n / 10, and then the last
-unfoldable pub decimalIn : ℕ → ℕ → List ℕ
-decimalIn zero n = (48 + n % 10) ∷ []
-decimalIn (suc k) n = cond (ltb n 10) ((48 + n) ∷ []) (decimalIn k (n / 10) ++ (48 + n % 10) ∷ [])
+-- the decimal digits of n in at most k + 1 places, once it is known whether n is below ten: those of n / 10, and then the last
+unfoldable pub decimalBy : ℕ → Bool → ℕ → List ℕ
+decimalBy zero below n = (48 + n % 10) ∷ []
+decimalBy (suc k) true n = (48 + n) ∷ []
+decimalBy (suc k) false n = decimalBy k (ltb (n / 10) 10) (n / 10) ++ (48 + n % 10) ∷ []
 
 -- n in decimal; n places are always enough
 unfoldable pub decimalOf : ℕ → List ℕ
-decimalOf n = decimalIn n n
+decimalOf n = decimalBy n (ltb n 10) n
 
 -- a space and a number's bits, a NaN's as 7fc00000
 unfoldable pub spacedOf : Float → List ℕ
