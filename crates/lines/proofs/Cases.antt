@@ -1,8 +1,7 @@
 -- Document 01's lines for case A, a NaN, and the last lines, computed from the definitions. Assumes nothing.
 use mathlib.Core.Path.{_≡_, refl}
-use mathlib.Core.List.{List, [], _∷_, map}
-use Prim.Native.Nat.{ℕ}
-use lib.Ieee.{Float, binary32, ofBits, toBits, nan}
+use mathlib.Core.List.{[], _∷_}
+use lib.Ieee.{binary32, ofBits, toBits, nan}
 use Rattle.lists.specs.Tab.{tab}
 use Rattle.lines.specs.Text.{decimalBy, decimalOf, hexDigit, hexOf, lastOf, lineOf, namedOf, spacedOf, valuesText}
 

@@ -1,6 +1,5 @@
 -- Laws of written bytes: runs end to end, and each kind of text one part more. Assumes nothing.
 use mathlib.Core.Path.{_≡_, refl, sym, _∙_, ap}
-use mathlib.Core.Bool.{Bool, true, false, cond}
 use mathlib.Core.List.{List, [], _∷_, _++_, append-assoc, append-nil}
 use mathlib.Core.Logic.{⊎-elim}
 use Prim.Native.Nat.{ℕ, zero, suc, _+_, _-_, _*_, _/_, _%_, _^_, _≤_, _<_}
@@ -10,13 +9,12 @@ use native.Mathlib.Omega.{arith}
 use lib.Dec.{ltb}
 use lib.Ieee.{Float, binary32, toBits}
 use lib.ListN.{length, length-append, set}
-use lib.Seq.{sets, length-sets}
+use lib.Seq.{sets}
 use borrow.Author.Tests.{lt-ltb, le-ltb}
 use Rattle.lists.specs.Tab.{at, fill, tab}
 use Rattle.lists.proofs.Tab.{length-tab}
-use Rattle.lists.proofs.Fill.{fill-join}
 use Rattle.lists.proofs.Nums.{le-or-lt}
-use Rattle.lines.specs.Text.{columnOf, decimalBy, decimalOf, hexDigit, hexOf, lineOf, linesOf, spacedOf, valuesText}
+use Rattle.lines.specs.Text.{columnOf, decimalBy, decimalOf, hexDigit, hexOf, spacedOf, valuesText}
 
 -- one run after another is their joined run
 pub sets-append : {A : Type 0} (l : List A) (i : ℕ) (xs ys : List A) → sets (sets l i xs) (i + length xs) ys ≡ sets l i (xs ++ ys)

@@ -1,6 +1,5 @@
 // The lines that the program `ampline` prints, written into a lent buffer: a block's columns, and the last line. Document 01, 'The program'.
 ghost use mathlib.Core.Path.{_≡_};
-ghost use mathlib.Core.List.{_++_};
 ghost use Prim.Native.Nat.{_+_, _*_, _<_, _≤_};
 ghost use lib.ListN.{length};
 ghost use lib.Seq.{sets};

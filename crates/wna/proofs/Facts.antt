@@ -3,7 +3,7 @@ use mathlib.Core.Path.{_≡_, refl, sym, _∙_, ap}
 use mathlib.Core.Bool.{Bool, true, false, cond, not, _||_}
 use mathlib.Core.List.{List, [], _∷_}
 use mathlib.Core.Logic.{⊎-elim}
-use Prim.Native.Nat.{ℕ, _+_, _*_, _≤_, _<_}
+use Prim.Native.Nat.{ℕ, _*_, _≤_}
 use native.Mathlib.Omega.{arith}
 use lib.Dec.{eqb, ltb}
 use lib.Ieee.{Float}
@@ -11,7 +11,7 @@ use lib.ListN.{length}
 use borrow.Author.Tests.{eq-eqb, eqb-false, eqb-true, ltb-false}
 use Rattle.lists.proofs.Nums.{le-or-lt}
 use Rattle.wna.specs.Header.{HeaderAnswers, LowHeader, badHeader, blockOf, columnsOf, countOf, headerLength, headerNumber, headerRefusal, headerValues, mostNumbers, otherMagic, versionOf}
-use Rattle.description.specs.Answers.{Answers, listed, numberOf, valuesOf}
+use Rattle.description.specs.Answers.{Answers, numberOf}
 use Rattle.description.specs.Refusals.{refusalOf}
 use Rattle.description.specs.Sizes.{sizesOf}
 use Rattle.description.specs.declared.answers.Checked.the-variants.{Sound}

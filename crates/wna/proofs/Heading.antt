@@ -1,13 +1,11 @@
 -- The answers on a header, from what the tests told. Assumes nothing.
-use mathlib.Core.Path.{_≡_, refl, sym, _∙_, ap}
-use mathlib.Core.Bool.{Bool, true, false, cond, not, _||_, or-true, or-false}
-use mathlib.Core.List.{List, [], _∷_}
-use Prim.Native.Nat.{ℕ, _+_, _≤_, _<_}
-use lib.Dec.{eqb, ltb}
+use mathlib.Core.Path.{_≡_}
+use mathlib.Core.Bool.{true, false}
+use mathlib.Core.List.{List}
+use Prim.Native.Nat.{ℕ, _≤_, _<_}
 use lib.ListN.{getD, length}
 use borrow.Author.Tests.{eq-eqb, le-ltb, lt-ltb, ne-eqb}
-use Rattle.wna.specs.Words.{halfAt, wordAt}
-use Rattle.wna.specs.Header.{HeaderAnswers, badHeader, blockOf, columnsOf, countOf, headerLength, headerNumber, headerRefusal, headerValues, otherMagic, versionOf}
+use Rattle.wna.specs.Header.{HeaderAnswers, badHeader, blockOf, columnsOf, countOf, headerNumber, headerRefusal, headerValues, otherMagic, versionOf}
 use Rattle.wna.specs.declared.header.Header.{Header}
 use Rattle.wna.specs.declared.header.HeaderAnswer.the-variants.{Refused, Whole}
 

@@ -1,19 +1,18 @@
 -- The calls on the pieces of a file, in their order, give the file's refusal. Each piece is what a read of so many bytes gives: fewer where the file
 -- ends. Assumes nothing.
-use mathlib.Core.Path.{_≡_, refl, sym, _∙_, ap}
-use mathlib.Core.Bool.{Bool, true, false, cond, not, _||_}
+use mathlib.Core.Path.{_≡_, refl, sym, _∙_}
+use mathlib.Core.Bool.{Bool, true, false, cond, not}
 use mathlib.Core.List.{List}
-use Prim.Native.Nat.{ℕ, _+_, _*_, _≤_, _<_, min}
+use Prim.Native.Nat.{ℕ, _+_, _*_, _≤_, min}
 use native.Mathlib.Omega.{arith}
 use lib.Dec.{eqb, ltb}
-use lib.ListN.{drop, getD, length, length-take, take}
+use lib.ListN.{drop, length, length-take, take}
 use lib.Seq.{getD-take}
 use borrow.Author.Tests.{le-ltb, lt-ltb, ltb-true, ltb-false}
 use Rattle.description.specs.Refusals.{refusalOf}
 use Rattle.description.specs.Sizes.{sizesOf}
-use Rattle.lists.specs.Tab.{tab}
 use Rattle.lists.proofs.Tab.{tab-ext}
-use Rattle.wna.specs.Header.{badHeader, blockOf, countOf, headerRefusal, mostNumbers, otherMagic, versionOf}
+use Rattle.wna.specs.Header.{badHeader, blockOf, countOf, headerRefusal, mostNumbers, otherMagic}
 use Rattle.wna.specs.Opening.{descriptionOf, descriptionRefusal, noRoom, openingRefusal, shortFor, weightsAt}
 use Rattle.wna.specs.Words.{halfAt, wordAt, wordsOf}
 

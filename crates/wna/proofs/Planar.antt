@@ -1,14 +1,14 @@
 -- Rows written one after the other make the planar block; what a planar block holds. Assumes nothing.
-use mathlib.Core.Path.{_≡_, refl, sym, _∙_, ap}
+use mathlib.Core.Path.{_≡_, refl, _∙_, ap}
 use mathlib.Core.List.{List}
-use Prim.Native.Nat.{ℕ, _+_, _*_, _/_, _%_, _≤_, _<_}
+use Prim.Native.Nat.{ℕ, _+_, _*_, _/_, _%_, _<_}
 use native.Mathlib.Nat.{div-add-mod', mod-lt, zero-add}
 use native.Mathlib.Omega.{arith}
 use lib.Ieee.{Float, nan}
 use lib.ListN.{length}
-use Rattle.lists.specs.Tab.{at, fill, rows, tab}
+use Rattle.lists.specs.Tab.{at, fill, rows}
 use Rattle.lists.proofs.Tab.{at-tab, is-tab, length-tab}
-use Rattle.lists.proofs.Rows.{at-rows-in, length-rows, rows-more, rows-none}
+use Rattle.lists.proofs.Rows.{at-rows-in, length-rows, rows-more}
 use Rattle.lists.proofs.Nums.{cell-div, cell-lt, cell-mod, div-lt, pos-of-lt}
 use Rattle.wna.specs.Columns.{numberAt, planarOf, spreadOf}
 

@@ -1,17 +1,15 @@
 -- The answers on a description and on weights, from what the tests told. Assumes nothing.
-use mathlib.Core.Path.{_≡_, refl, sym, _∙_, ap, subst}
-use mathlib.Core.Bool.{Bool, true, false, cond, not, _||_}
-use mathlib.Core.List.{List, []}
-use Prim.Native.Nat.{ℕ, _+_, _*_, _≤_, _<_}
+use mathlib.Core.Path.{_≡_, refl, sym, ap, subst}
+use mathlib.Core.Bool.{true, false}
+use mathlib.Core.List.{List}
+use Prim.Native.Nat.{ℕ, _*_, _≤_, _<_}
 use native.Mathlib.Nat.{mul-le-mul}
-use native.Mathlib.Omega.{arith}
-use lib.Dec.{eqb, ltb}
 use lib.Ieee.{Float}
 use lib.ListN.{length}
-use borrow.Author.Tests.{eq-eqb, le-ltb, lt-ltb, ne-eqb}
-use Rattle.description.specs.Answers.{Answers, listed, numberOf, valuesOf}
+use borrow.Author.Tests.{eq-eqb, le-ltb, lt-ltb}
+use Rattle.description.specs.Answers.{Answers, numberOf, valuesOf}
 use Rattle.description.specs.Refusals.{refusalOf}
-use Rattle.description.specs.Sizes.{sizesOf, widestOf}
+use Rattle.description.specs.Sizes.{sizesOf}
 use Rattle.description.specs.declared.answers.Checked.{Checked}
 use Rattle.description.specs.declared.answers.Checked.the-variants.{Refused, Sound}
 use Rattle.description.specs.declared.answers.Sizes.{Sizes}

@@ -1,18 +1,15 @@
-use Rattle.lists.proofs.Nums.{row-end}
-use Rattle.lines.proofs.Writing.{column-none, column-more}
-use lib.Seq.{sets}
-use Rattle.lines.specs.Text.{columnOf, valuesText}
-use mathlib.Core.Path.{_≡_, refl, sym, _∙_, ap}
-use Prim.Native.Nat.{ℕ, _+_, _*_, _-_, _/_, _%_, _≤_, _<_}
+-- `put_column` meets its contract. The loop's invariant: the rows passed are written (Writing). Assumes nothing.
+use mathlib.Core.Path.{_≡_, refl}
+use Prim.Native.Nat.{_-_, _≤_}
 use native.Mathlib.Omega.{arith}
-use lib.ListN.{length, set, take, drop, length-set}
-use lib.Ieee.{Float, nan, binary32, add, mul}
+use lib.Seq.{sets}
+use lib.ListN.{length}
 use borrow.Author.Needs.{needs}
+use Rattle.lists.proofs.Nums.{row-end}
+use Rattle.lines.specs.Text.{columnOf, valuesText}
+use Rattle.lines.proofs.Writing.{column-none, column-more}
 use Rattle.lines.proofs.put_column.Statement.{statement}
 use Rattle.lines.proofs.put_column.Tie as tie
-use Rattle.lines.proofs.put_column.Reads as reads
-use Rattle.lines.proofs.put_column.Lts as lts
-use Rattle.lines.proofs.put_spaced.Reads as put-spaced-reads
 
 abbrev Inv-loop : tie.InvT-loop
 Inv-loop out₀ at planar t n w c₀ out c =
@@ -21,55 +18,42 @@ Inv-loop out₀ at planar t n w c₀ out c =
 abbrev μ-loop : tie.MeasureT-loop
 μ-loop out₀ at planar t n w c₀ out c = w - c
 
--- src/text.rt:40:5
 loop-holds : tie.Need-loop-holds Inv-loop μ-loop
 loop-holds c = (search needs, refl, column-none _ _ _ _ _)
 
--- src/text.rt:41:30
 mul-put-spaced : tie.Need-mul-put-spaced Inv-loop μ-loop
 mul-put-spaced c = record { fits = omega (arith, row-end (c .before .before .loop .c) (c .before .before .before .before .before .args .w) (c .before .before .before .before .before .args .n) (c .before .loop-test .taken), c .before .before .before .before .before .pre) }
 
--- src/text.rt:41:25
 add-put-spaced : tie.Need-add-put-spaced Inv-loop μ-loop
 add-put-spaced c = record { fits = omega (arith, row-end (c .before .before .loop .c) (c .before .before .before .before .before .args .w) (c .before .before .before .before .before .args .n) (c .before .loop-test .taken), c .before .before .before .before .before .pre) }
 
--- src/text.rt:41:44
 mul-put-spaced-2 : tie.Need-mul-put-spaced-2 Inv-loop μ-loop
 mul-put-spaced-2 c = record { fits = omega (arith, row-end (c .before .before .loop .c) (c .before .before .before .before .before .args .w) (c .before .before .before .before .before .args .n) (c .before .loop-test .taken), c .before .before .before .before .before .pre) }
 
--- src/text.rt:41:44
 add-put-spaced-2 : tie.Need-add-put-spaced-2 Inv-loop μ-loop
 add-put-spaced-2 c = record { fits = omega (arith, row-end (c .before .before .loop .c) (c .before .before .before .before .before .args .w) (c .before .before .before .before .before .args .n) (c .before .loop-test .taken), c .before .before .before .before .before .pre) }
 
--- src/text.rt:41:37
 mul-put-spaced-3 : tie.Need-mul-put-spaced-3 Inv-loop μ-loop
 mul-put-spaced-3 c = record { fits = omega (arith, row-end (c .before .before .loop .c) (c .before .before .before .before .before .args .w) (c .before .before .before .before .before .args .n) (c .before .loop-test .taken), c .before .before .before .before .before .pre) }
 
--- src/text.rt:41:37
 shared-slice-read-put-spaced : tie.Need-shared-slice-read-put-spaced Inv-loop μ-loop
 shared-slice-read-put-spaced c = omega (arith, row-end (c .before .before .before .loop .c) (c .before .before .before .before .before .before .args .w) (c .before .before .before .before .before .before .args .n) (c .before .before .loop-test .taken), c .before .before .before .before .before .before .pre)
 
--- src/text.rt:41:9
 put-spaced-requires : tie.Need-put-spaced-requires Inv-loop μ-loop
 put-spaced-requires c κs = omega (arith, row-end (c .before .before .before .loop .c) (c .before .before .before .before .before .before .args .w) (c .before .before .before .before .before .before .args .n) (c .before .before .loop-test .taken), c .before .before .before .before .before .before .pre)
 
--- src/text.rt:40:9
 add-c : tie.Need-add-c Inv-loop μ-loop
 add-c c = search needs
 
--- src/text.rt:40:5
 loop-less : tie.Need-loop-less Inv-loop μ-loop
 loop-less c = search needs
 
--- src/text.rt:40:5
 loop-again : tie.Need-loop-again Inv-loop μ-loop
 loop-again c = (search needs, omega (arith, c .before .before .put-spaced .kept .0), column-more _ _ _ _ _ _ (c .before .before .before .before .before .before .loop .inv .2) (c .before .before .put-spaced .ensures))
 
--- src/text.rt:36:1
 same-length : tie.Need-same-length Inv-loop μ-loop
 same-length c = search needs
 
--- src/text.rt:36:1
 returns : tie.Need-returns Inv-loop μ-loop
 returns c = let e : c .before .loop .c ≡ c .before .before .before .before .args .w = omega arith in rw e at (c .before .loop .inv .2)
 

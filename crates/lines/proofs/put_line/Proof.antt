@@ -1,59 +1,42 @@
+-- `put_line` meets its contract. The parts of a line, end to end (Lining); an index has at most ten places. Assumes nothing.
+use mathlib.Core.Path.{_∙_}
+use native.Mathlib.Omega.{arith}
+use lib.ListN.{length-set}
 use Rattle.lines.proofs.Writing.{ten-places}
 use Rattle.lines.proofs.Lining.{line-done}
-use mathlib.Core.Path.{_≡_, refl, sym, _∙_, ap}
-use Prim.Native.Nat.{ℕ, _+_, _*_, _-_, _/_, _%_, _≤_, _<_}
-use native.Mathlib.Omega.{arith}
-use lib.ListN.{length, set, take, drop, length-set}
-use lib.Ieee.{Float, nan, binary32, add, mul}
-use borrow.Author.Needs.{needs}
 use Rattle.lines.proofs.put_line.Statement.{statement}
 use Rattle.lines.proofs.put_line.Tie as tie
-use Rattle.lines.proofs.put_line.Reads as reads
-use Rattle.lines.proofs.put_line.Lts as lts
-use Rattle.lines.proofs.put_column.Reads as put-column-reads
-use Rattle.lines.proofs.put_decimal.Reads as put-decimal-reads
 
--- src/text.rt:76:9
 put-decimal-requires : tie.Need-put-decimal-requires
 put-decimal-requires c κs = omega (arith, ten-places (c .before .before .before .before .args .index) (omega (arith, c .before .before .before .before .pre .1 .1)), c .before .before .before .before .pre .1)
 
--- src/text.rt:77:5
 put-column-requires : tie.Need-put-column-requires
 put-column-requires c κs = (omega (arith, ten-places (c .before .before .before .before .before .before .before .before .args .index) (omega (arith, c .before .before .before .before .before .before .before .before .pre .1 .1)), c .before .before .before .before .before .before .before .before .pre .1, c .before .before .before .put-decimal .ensures .0, c .before .before .before .put-decimal .kept .0), c .before .before .before .before .before .before .before .before .pre .1 .0, c .before .before .before .before .before .before .before .before .pre .0 .held)
 
--- src/text.rt:78:25
 mul-rest : tie.Need-mul-rest
 mul-rest c = record { fits = omega (arith, ten-places (c .before .before .before .before .before .before .before .before .before .before .before .args .index) (omega (arith, c .before .before .before .before .before .before .before .before .before .before .before .pre .1 .1)), c .before .before .before .before .before .before .before .before .before .before .before .pre .1, c .before .before .before .before .before .before .before .before .before .before .before .good .0 .0) }
 
--- src/text.rt:78:16
 add-rest : tie.Need-add-rest
 add-rest c = record { fits = omega (arith, ten-places (c .before .before .before .before .before .before .before .before .before .before .before .args .index) (omega (arith, c .before .before .before .before .before .before .before .before .before .before .before .pre .1 .1)), c .before .before .before .before .before .before .before .before .before .before .before .pre .1, c .before .before .before .before .before .before .put-decimal .ensures .0, c .before .before .before .before .before .before .put-decimal .kept .0, c .before .before .before .before .before .before .before .before .before .before .before .good .0 .0) }
 
--- src/text.rt:79:5
 put-column-requires-2 : tie.Need-put-column-requires-2
 put-column-requires-2 c κs = (omega (arith, ten-places (c .before .before .before .before .before .before .before .before .before .before .before .before .args .index) (omega (arith, c .before .before .before .before .before .before .before .before .before .before .before .before .pre .1 .1)), c .before .before .before .before .before .before .before .before .before .before .before .before .pre .1, c .before .before .before .before .before .before .before .put-decimal .ensures .0, c .before .before .before .before .before .before .before .put-decimal .kept .0, c .before .before .before .put-column .kept .0), c .before .before .before .before .before .before .before .before .before .before .before .before .pre .1 .0, c .before .before .before .before .before .before .before .before .before .before .before .before .pre .0 .also)
 
--- src/text.rt:80:22
 mul-end : tie.Need-mul-end
 mul-end c = record { fits = omega (arith, ten-places (c .before .before .before .before .before .before .before .before .before .before .before .before .before .before .before .args .index) (omega (arith, c .before .before .before .before .before .before .before .before .before .before .before .before .before .before .before .pre .1 .1)), c .before .before .before .before .before .before .before .before .before .before .before .before .before .before .before .pre .1, c .before .before .before .before .before .before .before .before .before .before .put-decimal .ensures .0, c .before .before .before .before .before .before .before .before .before .before .put-decimal .kept .0, c .before .before .before .before .before .before .before .before .before .before .before .before .before .before .before .good .0 .0) }
 
--- src/text.rt:80:15
 add-end : tie.Need-add-end
 add-end c = record { fits = omega (arith, ten-places (c .before .before .before .before .before .before .before .before .before .before .before .before .before .before .before .args .index) (omega (arith, c .before .before .before .before .before .before .before .before .before .before .before .before .before .before .before .pre .1 .1)), c .before .before .before .before .before .before .before .before .before .before .before .before .before .before .before .pre .1, c .before .before .before .before .before .before .before .before .before .before .put-decimal .ensures .0, c .before .before .before .before .before .before .before .before .before .before .put-decimal .kept .0, c .before .before .before .before .before .before .before .before .before .before .before .before .before .before .before .good .0 .0) }
 
--- src/text.rt:81:5
 slice-write-out : tie.Need-slice-write-out
 slice-write-out c = omega (arith, ten-places (c .before .before .before .before .before .before .before .before .before .before .before .before .before .before .before .args .index) (omega (arith, c .before .before .before .before .before .before .before .before .before .before .before .before .before .before .before .pre .1 .1)), c .before .before .before .before .before .before .before .before .before .before .before .before .before .before .before .pre .1, c .before .before .before .before .before .before .before .before .before .before .put-decimal .ensures .0, c .before .before .before .before .before .before .before .before .before .before .put-decimal .kept .0, c .before .before .before .before .before .before .put-column .kept .0, c .before .before .put-column2 .kept .0)
 
--- src/text.rt:82:5
 add-result : tie.Need-add-result
 add-result c = record { fits = omega (arith, ten-places (c .before .before .before .before .before .before .before .before .before .before .before .before .before .before .before .args .index) (omega (arith, c .before .before .before .before .before .before .before .before .before .before .before .before .before .before .before .pre .1 .1)), c .before .before .before .before .before .before .before .before .before .before .before .before .before .before .before .pre .1, c .before .before .before .before .before .before .before .before .before .before .put-decimal .ensures .0, c .before .before .before .before .before .before .before .before .before .before .put-decimal .kept .0, c .before .before .before .before .before .before .before .before .before .before .before .before .before .before .before .good .0 .0) }
 
--- src/text.rt:61:1
 same-length : tie.Need-same-length
 same-length c = simp length-set (c .before .before .put-column2 .kept .0 ∙ c .before .before .before .before .before .before .put-column .kept .0 ∙ c .before .before .before .before .before .before .before .before .before .before .put-decimal .kept .0)
 
--- src/text.rt:61:1
 returns : tie.Need-returns
 returns c = line-done (c .before .before .before .before .before .before .before .before .before .before .before .before .before .before .before .args .n) (c .before .before .before .before .before .before .before .before .before .before .before .before .before .before .before .args .heads) (c .before .before .before .before .before .before .before .before .before .before .before .before .before .before .before .args .head .now) (c .before .before .before .before .before .before .before .before .before .before .before .before .before .before .before .args .arrays) (c .before .before .before .before .before .before .before .before .before .before .before .before .before .before .before .args .array .now) (c .before .before .before .before .before .before .before .before .before .before .before .before .before .before .before .args .t) (c .before .before .before .before .before .before .before .before .before .before .before .before .before .before .before .args .index) (c .before .before .before .before .before .before .before .before .before .before .before .before .before .before .before .args .out .now) (c .before .before .before .before .before .before .before .before .before .before .before .before .before .before .before .args .at) (c .before .before .before .before .before .before .before .before .before .before .before .before .before .before .before .pre .1 .1) (c .before .before .before .before .before .before .before .before .before .before .before .before .before .before .before .pre .1 .2) (c .before .before .before .before .before .before .before .before .before .before .put-decimal .ensures .1) (c .before .before .before .before .before .before .before .before .before .before .put-decimal .ensures .0) (c .before .before .before .before .before .before .put-column .ensures) (c .before .before .put-column2 .ensures)
 

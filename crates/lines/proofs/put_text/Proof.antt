@@ -1,17 +1,14 @@
-use lib.ListN.{getD}
+-- `put_text` meets its contract. The loop's invariant: the bytes passed are copied. Assumes nothing.
+use mathlib.Core.Path.{_≡_, refl, sym}
+use Prim.Native.Nat.{_-_, _≤_}
+use native.Mathlib.Omega.{arith}
+use lib.ListN.{getD, length}
+use borrow.Author.Needs.{needs}
 use Rattle.lists.proofs.Fill.{fill-none, fill-step}
 use Rattle.lists.specs.Tab.{fill}
 use Rattle.lines.proofs.Lining.{text-done}
-use mathlib.Core.Path.{_≡_, refl, sym, _∙_, ap}
-use Prim.Native.Nat.{ℕ, _+_, _*_, _-_, _/_, _%_, _≤_, _<_}
-use native.Mathlib.Omega.{arith}
-use lib.ListN.{length, set, take, drop, length-set}
-use lib.Ieee.{Float, nan, binary32, add, mul}
-use borrow.Author.Needs.{needs}
 use Rattle.lines.proofs.put_text.Statement.{statement}
 use Rattle.lines.proofs.put_text.Tie as tie
-use Rattle.lines.proofs.put_text.Reads as reads
-use Rattle.lines.proofs.put_text.Lts as lts
 
 abbrev Inv-loop : tie.InvT-loop
 Inv-loop out₀ text n i₀ out i =
@@ -20,35 +17,27 @@ Inv-loop out₀ text n i₀ out i =
 abbrev μ-loop : tie.MeasureT-loop
 μ-loop out₀ text n i₀ out i = n - i
 
--- src/text.rt:112:5
 loop-holds : tie.Need-loop-holds Inv-loop μ-loop
 loop-holds c = (search needs, search needs, search needs, search needs, sym (fill-none _ _ _))
 
--- src/text.rt:113:18
 shared-slice-read-out : tie.Need-shared-slice-read-out Inv-loop μ-loop
 shared-slice-read-out c = search needs
 
--- src/text.rt:113:9
 slice-write-out : tie.Need-slice-write-out Inv-loop μ-loop
 slice-write-out c = search needs
 
--- src/text.rt:112:9
 add-i : tie.Need-add-i Inv-loop μ-loop
 add-i c = search needs
 
--- src/text.rt:112:5
 loop-less : tie.Need-loop-less Inv-loop μ-loop
 loop-less c = search needs
 
--- src/text.rt:112:5
 loop-again : tie.Need-loop-again Inv-loop μ-loop
 loop-again c = (search needs, search needs, search needs, search needs, fill-step _ _ _ _ _ (c .before .before .loop .inv .4) refl)
 
--- src/text.rt:107:1
 same-length : tie.Need-same-length Inv-loop μ-loop
 same-length c = search needs
 
--- src/text.rt:107:1
 returns : tie.Need-returns Inv-loop μ-loop
 returns c = text-done (c .before .loop .out) (c .before .before .args .out .now) (c .before .before .args .text .now) (c .before .loop .i) (c .before .loop .inv .4) (omega arith)
 

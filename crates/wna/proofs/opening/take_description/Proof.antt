@@ -1,67 +1,46 @@
-use Rattle.wna.proofs.Taken.{cut, wrong, low, crowded, opened}
-use mathlib.Core.Path.{_≡_, refl, sym, _∙_, ap}
-use Prim.Native.Nat.{ℕ, _+_, _*_, _-_, _/_, _%_, _≤_, _<_}
-use native.Mathlib.Omega.{arith}
-use lib.ListN.{length, set, take, drop, length-set}
-use lib.Ieee.{Float, nan, binary32, add, mul}
+-- `take_description` meets its contract. Each way out gives its record (Taken). Assumes nothing.
+use mathlib.Core.Path.{sym, _∙_}
 use borrow.Author.Needs.{needs}
+use Rattle.wna.proofs.Taken.{cut, wrong, low, crowded, opened}
 use Rattle.wna.proofs.opening.take_description.Statement.{statement}
 use Rattle.wna.proofs.opening.take_description.Tie as tie
-use Rattle.wna.proofs.opening.take_description.Reads as reads
-use Rattle.wna.proofs.opening.take_description.Lts as lts
-use Rattle.description.proofs.check.check.Reads as check-reads
-use Rattle.wna.proofs.opening.no_room.Reads as no-room-reads
-use Rattle.wna.proofs.words.unpack_numbers.Reads as unpack-numbers-reads
 
--- src/opening.rt:37:22
 mul-if1 : tie.Need-mul-if1
 mul-if1 c = search needs
 
--- src/opening.rt:38:9
 returns : tie.Need-returns
 returns c = cut (c .before .before .before .args .numbers .now) (c .before .before .before .args .bytes .now) (c .before .before .before .args .block) (c .if1 .taken)
 
--- src/opening.rt:40:5
 unpack-numbers-requires : tie.Need-unpack-numbers-requires
 unpack-numbers-requires c κs = search needs
 
--- src/opening.rt:41:9
 check-requires : tie.Need-check-requires
 check-requires c κs = search needs
 
--- src/opening.rt:42:24
 enum-known-checked : tie.Need-enum-known-checked
 enum-known-checked c = search needs
 
--- src/opening.rt:43:9
 enum-told : tie.Need-enum-told
 enum-told c = search needs
 
--- src/opening.rt:43:9
 same-length : tie.Need-same-length
 same-length c = search needs
 
--- src/opening.rt:43:9
 returns-2 : tie.Need-returns-2
 returns-2 c = wrong (c .before .before .before .before .before .before .before .before .before .before .before .args .numbers .now) (c .before .before .before .before .before .before .before .before .before .before .before .args .bytes .now) (c .before .before .before .before .before .before .before .before .before .before .before .args .block) (c .before .before .before .before .before .before .before .before .if1 .left) (c .before .before .before .before .before .before .unpack-numbers .ensures) (c .before .before .check .ensures) (c .enum-told .given .1)
 
--- src/opening.rt:45:8
 no-room-requires : tie.Need-no-room-requires
 no-room-requires c κs = (low (c .before .before .before .before .before .before .before .before .before .before .before .before .args .numbers .now) (c .before .before .before .before .before .before .before .before .before .before .before .before .args .bytes .now) (c .before .before .before .before .before .before .before .before .before .before .before .before .args .block) (c .before .before .before .before .before .before .before .before .before .if1 .left) (c .before .before .before .before .before .before .before .unpack-numbers .ensures) (c .before .before .before .check .ensures) (c .before .checked .given .1), c .before .before .before .before .before .before .before .before .before .before .before .before .pre)
 
--- src/opening.rt:46:9
 same-length-2 : tie.Need-same-length-2
 same-length-2 c = search needs
 
--- src/opening.rt:46:9
 returns-3 : tie.Need-returns-3
 returns-3 c = crowded (c .before .before .before .before .before .before .before .before .before .before .before .before .before .before .args .numbers .now) (c .before .before .before .before .before .before .before .before .before .before .before .before .before .before .args .bytes .now) (c .before .before .before .before .before .before .before .before .before .before .before .before .before .before .args .block) (c .before .before .before .before .before .before .before .before .before .before .before .if1 .left) (c .before .before .before .before .before .before .before .before .before .unpack-numbers .ensures) (c .before .before .before .before .before .check .ensures) (c .before .before .before .checked .given .1) (sym (c .before .no-room .ensures) ∙ c .if2 .taken)
 
--- src/opening.rt:33:1
 same-length-3 : tie.Need-same-length-3
 same-length-3 c = search needs
 
--- src/opening.rt:33:1
 returns-4 : tie.Need-returns-4
 returns-4 c = opened (c .before .before .before .before .before .before .before .before .before .before .before .before .before .before .args .numbers .now) (c .before .before .before .before .before .before .before .before .before .before .before .before .before .before .args .bytes .now) (c .before .before .before .before .before .before .before .before .before .before .before .before .before .before .args .block) (c .before .before .before .before .before .before .before .before .before .before .before .if1 .left) (c .before .before .before .before .before .before .before .before .before .unpack-numbers .ensures) (c .before .before .before .before .before .check .ensures) (c .before .before .before .checked .given .1) (sym (c .before .no-room .ensures) ∙ c .if2 .left)
 

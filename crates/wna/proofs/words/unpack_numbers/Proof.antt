@@ -1,18 +1,15 @@
-use Rattle.wna.proofs.Unpacking.{filled}
-use Rattle.lists.proofs.Fill.{fill-all, fill-none, fill-step}
+-- `unpack_numbers` meets its contract. The loop's invariant: the places passed hold their words. Assumes nothing.
+use mathlib.Core.Path.{_≡_, sym}
+use Prim.Native.Nat.{_*_, _-_, _≤_}
+use native.Mathlib.Omega.{arith}
+use lib.ListN.{length}
+use borrow.Author.Needs.{needs}
+use Rattle.lists.proofs.Fill.{fill-none, fill-step}
 use Rattle.lists.specs.Tab.{fill}
 use Rattle.wna.specs.Words.{wordAt, wordsOf}
-use mathlib.Core.Path.{_≡_, refl, sym, _∙_, ap}
-use Prim.Native.Nat.{ℕ, _+_, _*_, _-_, _/_, _%_, _≤_, _<_}
-use native.Mathlib.Omega.{arith}
-use lib.ListN.{length, set, take, drop, length-set}
-use lib.Ieee.{Float, nan, binary32, add, mul}
-use borrow.Author.Needs.{needs}
+use Rattle.wna.proofs.Unpacking.{filled}
 use Rattle.wna.proofs.words.unpack_numbers.Statement.{statement}
 use Rattle.wna.proofs.words.unpack_numbers.Tie as tie
-use Rattle.wna.proofs.words.unpack_numbers.Reads as reads
-use Rattle.wna.proofs.words.unpack_numbers.Lts as lts
-use Rattle.wna.proofs.words.word.Reads as word-reads
 
 abbrev Inv-loop : tie.InvT-loop
 Inv-loop numbers₀ bytes n i₀ numbers i =
@@ -21,47 +18,36 @@ Inv-loop numbers₀ bytes n i₀ numbers i =
 abbrev μ-loop : tie.MeasureT-loop
 μ-loop numbers₀ bytes n i₀ numbers i = n - i
 
--- src/words.rt:46:5
 loop-holds : tie.Need-loop-holds Inv-loop μ-loop
 loop-holds c = (search needs, search needs, search needs, search needs, sym (fill-none _ _ _))
 
--- src/words.rt:47:34
 mul-word : tie.Need-mul-word Inv-loop μ-loop
 mul-word c = search needs
 
--- src/words.rt:47:22
 word-requires : tie.Need-word-requires Inv-loop μ-loop
 word-requires c κs = search needs
 
--- src/words.rt:47:22
 cast-numbers : tie.Need-cast-numbers Inv-loop μ-loop
 cast-numbers c = search needs
 
--- src/words.rt:47:9
 mul-numbers : tie.Need-mul-numbers Inv-loop μ-loop
 mul-numbers c = search needs
 
--- src/words.rt:47:9
 slice-write-numbers : tie.Need-slice-write-numbers Inv-loop μ-loop
 slice-write-numbers c = search needs
 
--- src/words.rt:46:9
 add-i : tie.Need-add-i Inv-loop μ-loop
 add-i c = search needs
 
--- src/words.rt:46:5
 loop-less : tie.Need-loop-less Inv-loop μ-loop
 loop-less c = search needs
 
--- src/words.rt:46:5
 loop-again : tie.Need-loop-again Inv-loop μ-loop
 loop-again c = (search needs, search needs, search needs, search needs, fill-step _ _ _ _ _ (c .before .before .loop .inv .4) (c .word .ensures .0))
 
--- src/words.rt:41:1
 same-length : tie.Need-same-length Inv-loop μ-loop
 same-length c = search needs
 
--- src/words.rt:41:1
 returns : tie.Need-returns Inv-loop μ-loop
 unfolding wordsOf
 returns c = filled 0 _ _ _ _ (c .before .loop .inv .4) (omega arith)
