@@ -11,9 +11,10 @@ use lib.ListN.{length}
 use borrow.Author.Tests.{eq-eqb, eqb-false, eqb-true, ltb-false}
 use Rattle.lists.proofs.Nums.{le-or-lt}
 use Rattle.wna.specs.Header.{HeaderAnswers, LowHeader, badHeader, blockOf, columnsOf, countOf, headerLength, headerNumber, headerRefusal, headerValues, mostNumbers, otherMagic, versionOf}
-use Rattle.description.specs.Answers.{Answers, numberOf}
+use Rattle.description.specs.Answers.{Answers, listed, numberOf, valuesOf}
 use Rattle.description.specs.Refusals.{refusalOf}
 use Rattle.description.specs.Sizes.{sizesOf}
+use Rattle.description.specs.declared.answers.Checked.{Checked}
 use Rattle.description.specs.declared.answers.Checked.the-variants.{Sound}
 use Rattle.description.specs.declared.answers.Sizes.{Sizes}
 use Rattle.description.proofs.Facts.{sound-only}
@@ -72,6 +73,9 @@ passed f e = none (badHeader f) (ltb mostNumbers (countOf f)) e
 above : (b : ℕ) → (b ≡ 0 → ⊥) → 1 ≤ b
 above b ne = ⊎-elim (λ le. absurd (ne (omega arith))) (λ lt. lt) (le-or-lt b 0)
 
+pub block-some : (f : List ℕ) → badHeader f ≡ false → 1 ≤ blockOf f
+block-some f e = above (blockOf f) (eqb-false (blockOf f) 0 (block-in f e .0))
+
 -- what a whole header tells of its numbers
 pub header-low : (f : List ℕ) {h : Header} → HeaderAnswers f (Whole h) → LowHeader h
 unfolding headerNumber headerValues
@@ -82,7 +86,7 @@ header-low f {h} a =
     let e : h .block ≡ blockOf f = cc in
     let n : h .count ≡ countOf f = cc in
     record {
-      some = rw e (above (blockOf f) (eqb-false (blockOf f) 0 (b .0)));
+      some = rw e (block-some f (p .0));
       largest = rw e (ltb-false 1024 (blockOf f) (b .1));
       numbers = rw n (ltb-false 584 (countOf f) (p .1));
     }
@@ -118,3 +122,10 @@ opened-is {numbers} {f} {numbers′} {block} {s} a =
     let is = sound-only d told in
     let room = has-room s block (ap (λ (s : Sizes). noRoom s block) (is .1) ∙ p .2) in
     record { sound = rw e (p .1); sizes = rw e (is .1); weights = room .0; histories = room .1; planar = room .2 }
+
+-- any two results on a description agree
+pub described-agree : {numbers f x y : List ℕ} {block : ℕ} {r s : Checked} → Described numbers f block r x → Described numbers f block s y
+    → (numberOf r ≡ numberOf s) × (valuesOf r ≡ valuesOf s) × (x ≡ y)
+described-agree {numbers} {f} a b =
+    let n = a .number ∙ sym (b .number) in
+    (n, a .values ∙ ap (λ (k : ℕ). cond (eqb k 0) (listed (sizesOf (wordsOf (length numbers) f))) []) n ∙ sym (b .values), a .unpacked ∙ sym (b .unpacked))

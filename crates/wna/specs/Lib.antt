@@ -1,4 +1,5 @@
 pub mod Columns
+pub mod File
 pub mod Header
 pub mod Opening
 pub mod Stream
