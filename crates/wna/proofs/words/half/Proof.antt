@@ -1,0 +1,44 @@
+-- `half` meets its contract. Two bytes, each below 256. Assumes nothing.
+use native.Mathlib.Omega.{arith}
+use borrow.Author.Needs.{needs}
+use Rattle.wna.specs.Words.{halfAt}
+use Rattle.wna.proofs.words.half.Statement.{statement}
+use Rattle.wna.proofs.words.half.Tie as tie
+
+shared-slice-read-wide : tie.Need-shared-slice-read-wide
+shared-slice-read-wide c = search needs
+
+wide-requires : tie.Need-wide-requires
+wide-requires c κs = search needs
+
+add-wide : tie.Need-add-wide
+add-wide c = search needs
+
+shared-slice-read-wide-2 : tie.Need-shared-slice-read-wide-2
+shared-slice-read-wide-2 c = search needs
+
+wide-requires-2 : tie.Need-wide-requires-2
+wide-requires-2 c κs = search needs
+
+mul-result : tie.Need-mul-result
+mul-result c = search needs
+
+add-result : tie.Need-add-result
+add-result c = search needs
+
+returns : tie.Need-returns
+unfolding halfAt
+returns c = (rw (c .before .before .wide .ensures .0, c .wide2 .ensures .0), omega (arith, c .before .before .wide .ensures .1, c .wide2 .ensures .1))
+
+pub half-spec : {M : Type 1} → statement M
+half-spec =
+    tie.close
+    (tie.spec
+    shared-slice-read-wide
+    wide-requires
+    add-wide
+    shared-slice-read-wide-2
+    wide-requires-2
+    mul-result
+    add-result
+    returns)
