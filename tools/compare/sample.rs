@@ -21,20 +21,46 @@ fn case_a() -> File {
     File { block: 4, columns: 4, description, weights, signal }
 }
 
-/// A file within the program's limits and small enough to keep, about what a test wants of it.
-fn invented(r: &mut Random, reach: Reach, kinds: (Kind, Kind), wanted: impl Fn(&[u32]) -> bool) -> File {
+/// What a sound case is about: its reach, the kinds of its weights and of its signal, what its description and the outputs have to show.
+struct Wish {
+    name: &'static str,
+    reach: Reach,
+    weights: Kind,
+    signal: Kind,
+    wanted: fn(&[u32]) -> bool,
+    shown: fn(&[u32]) -> bool,
+}
+
+/// A file within the program's limits and small enough to keep.
+fn invented(r: &mut Random, wish: &Wish) -> File {
     loop {
-        let (description, a) = invent::description(r, reach);
+        let (description, a) = invent::description(r, wish.reach);
         let bytes = 4 * (description.len() + a.weights);
-        if !wanted(&description) || a.histories > 16_384 || bytes > MOST_BYTES - 1000 {
+        if !(wish.wanted)(&description) || a.histories > 16_384 || bytes > MOST_BYTES - 1000 {
             continue;
         }
         let width = a.input + a.condition + a.head_in;
         let columns = ((MOST_BYTES - bytes) / (4 * width)).min(40);
         let block = r.within(1, (1024 / a.widest).min(columns)) as u16;
-        let weights = invent::weights(r, &a, kinds.0);
-        return File { block, columns: columns as u32, description, weights, signal: r.numbers(kinds.1, columns * width) };
+        let weights = invent::weights(r, &a, wish.weights);
+        let f = File { block, columns: columns as u32, description, weights, signal: r.numbers(wish.signal, columns * width) };
+        if (wish.shown)(&outputs(&program::play(&f.bytes()).text)) {
+            return f;
+        }
     }
+}
+
+/// The patterns that are printed.
+fn outputs(text: &str) -> Vec<u32> {
+    text.split_whitespace().filter(|w| w.len() == 8).map(|w| u32::from_str_radix(w, 16).unwrap()).collect()
+}
+
+fn share(x: &[u32], of: impl Fn(u32) -> bool) -> f32 {
+    x.iter().filter(|b| of(**b)).count() as f32 / x.len() as f32
+}
+
+fn few_nans(x: &[u32]) -> bool {
+    share(x, |b| b == 0x7fc0_0000) < 0.5
 }
 
 /// The Rust's own print of a whole file, one column at a time.
@@ -72,37 +98,42 @@ fn write(dir: &Path, name: &str, bytes: &[u8], sound: Option<&File>) {
     }
 }
 
-type Wanted = fn(&[u32]) -> bool;
-
-/// What the sound cases are about, each with its weights' and its signal's kind of number.
-fn wishes() -> Vec<(&'static str, Reach, Kind, Kind, Wanted)> {
-    use Kind::*;
+/// Ordinary numbers, and what the description is about: places 8 to 31 are the first layer's.
+fn shapes_wished() -> Vec<Wish> {
     let small = invent::SMALL;
     let wide = Reach { width: 32, ..small };
     let deep = Reach { width: 2, kernel: 3, dilation: 64, layers: 8 };
     let far = Reach { width: 2, kernel: 16, dilation: 40, layers: 2 };
+    let wish = |name, reach, wanted| Wish { name, reach, weights: Kind::Ordinary, signal: Kind::Ordinary, wanted, shown: few_nans };
     vec![
-        ("none", small, Ordinary, Ordinary, |d| d[13] == 0 && d[7] == 1),
-        ("gated", small, Ordinary, Ordinary, |d| d[13] == 1 && d[14] == 0 && d[16] == 2),
-        ("blended", small, Ordinary, Ordinary, |d| d[13] == 2),
-        ("sites-none", small, Ordinary, Ordinary, |d| d[13] == 0 && d[23..31].iter().all(|g| *g > 0)),
-        ("sites-gated", small, Ordinary, Ordinary, |d| d[13] == 1 && d[23..31].iter().all(|g| *g > 0)),
-        ("sites-blended", small, Ordinary, Ordinary, |d| d[13] == 2 && d[18] > 0 && d[20] > 0 && d[23..31].iter().all(|g| *g > 0)),
-        ("site-6-gated", small, Ordinary, Ordinary, |d| d[13] == 1 && d[18] > 0 && d[29] > 0),
-        ("site-7-no-head", small, Ordinary, Ordinary, |d| d[20] == 0 && d[30] > 0),
-        ("groups", wide, Ordinary, Ordinary, |d| d[11] > 1 && d[12] > 1 && (d[18] > 1 || d[21] > 1)),
-        ("site-groups", small, Ordinary, Ordinary, |d| d[23..31].iter().filter(|g| **g > 1).count() > 2),
-        ("no-layer1x1", small, Ordinary, Ordinary, |d| d[18] == 0 && d[7] > 1),
-        ("head-kernel", small, Ordinary, Ordinary, |d| d[5] > 2 && d[6] == 0),
-        ("deep", deep, Ordinary, Ordinary, |d| d[7] > 5),
-        ("far", far, Ordinary, Ordinary, |d| d[9] > 8 && d[10] > 20),
-        ("wide", wide, Ordinary, Ordinary, |d| d[0] > 20 && d[7] == 1),
-        ("slopes", small, Ordinary, Ordinary, |d| d[14] == 3 && d[15] > 0x7f80_0000),
-        ("zeros", small, Zeros, Zeros, |d| d[6] == 1),
-        ("huge", small, Ordinary, Huge, |d| d[7] > 1),
-        ("subnormal", small, Small, Small, |d| d[7] > 1),
-        ("wild", small, Ordinary, Wild, |d| d[7] > 1),
-        ("any-bits", small, Any, Any, |d| d[7] > 1),
+        wish("none", small, |d| d[13] == 0 && d[7] == 1),
+        wish("gated", small, |d| d[13] == 1 && d[14] == 0 && d[16] == 2),
+        wish("blended", small, |d| d[13] == 2),
+        wish("sites-none", small, |d| d[13] == 0 && d[23..31].iter().all(|g| *g > 0)),
+        wish("sites-gated", small, |d| d[13] == 1 && d[23..31].iter().all(|g| *g > 0)),
+        wish("sites-blended", small, |d| d[13] == 2 && d[18] > 0 && d[20] > 0 && d[23..31].iter().all(|g| *g > 0)),
+        wish("site-6-gated", small, |d| d[13] == 1 && d[18] > 0 && d[29] > 0),
+        wish("site-7-no-head", small, |d| d[20] == 0 && d[30] > 0),
+        wish("groups", wide, |d| d[11] > 1 && d[12] > 1 && (d[18] > 1 || d[21] > 1)),
+        wish("site-groups", small, |d| d[23..31].iter().filter(|g| **g > 1).count() > 2),
+        wish("no-layer1x1", small, |d| d[18] == 0 && d[7] > 1),
+        wish("head-kernel", small, |d| d[5] > 2 && d[6] == 0),
+        wish("deep", deep, |d| d[7] > 5),
+        wish("far", far, |d| d[9] > 8 && d[10] > 20),
+        wish("wide", wide, |d| d[0] > 20 && d[7] == 1),
+        wish("slopes", small, |d| d[14] == 3 && d[15] > 0x7f80_0000),
+    ]
+}
+
+/// Odd numbers, and what has to come of them.
+fn numbers_wished() -> Vec<Wish> {
+    let wish = |name, weights, signal, wanted, shown| Wish { name, reach: invent::SMALL, weights, signal, wanted, shown };
+    vec![
+        wish("zeros", Kind::Zeros, Kind::Zeros, |d| d[6] == 1, |x| share(x, |b| b == 0x8000_0000) > 0.05 && few_nans(x)),
+        wish("huge", Kind::Ordinary, Kind::Huge, |d| d[7] > 1, |x| share(x, |b| b << 1 == 0xff00_0000) > 0.02 && few_nans(x)),
+        wish("subnormal", Kind::Small, Kind::Small, |d| d[7] > 1, |x| share(x, |b| b << 1 != 0 && b << 1 >> 24 == 0) > 0.02 && few_nans(x)),
+        wish("wild", Kind::Ordinary, Kind::Wild, |d| d[7] > 1, |x| share(x, |b| b == 0x7fc0_0000) > 0.1 && few_nans(x)),
+        wish("any-bits", Kind::Any, Kind::Any, |d| d[7] > 1, few_nans),
     ]
 }
 
@@ -134,17 +165,37 @@ fn broken() -> Vec<(&'static str, Vec<u8>)> {
     ]
 }
 
+/// The program's own limits, at them and one past them.
+fn limits() -> Vec<(&'static str, Vec<u8>)> {
+    let a = case_a();
+    let with = |block: u16, columns: u32, changes: &[(usize, u32)]| {
+        let mut description = a.description.clone();
+        changes.iter().for_each(|(at, to)| description[*at] = *to);
+        File { block, columns, description, weights: a.weights.clone(), signal: a.signal.clone() }.bytes()
+    };
+    let layer = &[32, 16, 2048, 1, 1, 0, 1, 0, 0, 0, 1, 1, 0, 0, 0, 0, 0, 0, 0, 0, 0, 0, 0, 0];
+    let two = [&[1, 1, 32, 32, 1, 1, 0, 2], &layer[..], &layer[..]].concat();
+    vec![
+        ("block-1024", with(1024, 4, &[])),
+        ("block-1025", with(1025, 4, &[])),
+        ("block-1024-w-2", with(1024, 4, &[(0, 2)])),
+        ("histories-11", with(1, 4, &[(9, 9), (10, 2048)])),
+        ("histories-5", File { block: 1, columns: 0, description: two, weights: vec![], signal: vec![] }.bytes()),
+        ("columns-2-32", with(3, u32::MAX, &[])),
+    ]
+}
+
 pub fn write_all(dir: &str, seed: u64) {
     let dir = Path::new(dir);
     fs::create_dir_all(dir).unwrap();
     let a = case_a();
     write(dir, "case-a", &a.bytes(), Some(&a));
-    let wishes = wishes();
-    for (i, (name, reach, weights, signal, wanted)) in wishes.iter().enumerate() {
-        let f = invented(&mut Random::new(seed, i as u64), *reach, (*weights, *signal), wanted);
-        write(dir, name, &f.bytes(), Some(&f));
+    let wishes: Vec<Wish> = shapes_wished().into_iter().chain(numbers_wished()).collect();
+    for (i, wish) in wishes.iter().enumerate() {
+        let f = invented(&mut Random::new(seed, i as u64), wish);
+        write(dir, wish.name, &f.bytes(), Some(&f));
     }
-    let broken = broken();
-    broken.iter().for_each(|(name, bytes)| write(dir, name, bytes, None));
-    println!("{} sound and {} broken files in {}", 1 + wishes.len(), broken.len(), dir.display());
+    let others: Vec<_> = broken().into_iter().chain(limits()).collect();
+    others.iter().for_each(|(name, bytes)| write(dir, name, bytes, None));
+    println!("{} sound files, {} broken ones or at a limit, in {}", 1 + wishes.len(), others.len(), dir.display());
 }

@@ -4,6 +4,7 @@ pub const MOST: usize = 1_048_576;
 pub const HEAD: usize = 8;
 pub const PLACES: usize = 24;
 pub const SITES: usize = 8;
+pub const SIZES: usize = 5;
 
 /// The lowest and highest numbers of the array's eight and of a layer's twenty-four places. A slope's bits are free.
 pub const ARRAY_LIMITS: [(u32, u32); HEAD] = [(1, 32), (1, 32), (1, 32), (1, 32), (1, 32), (1, 16), (0, 1), (1, 24)];
