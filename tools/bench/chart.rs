@@ -2,6 +2,7 @@
 
 use std::fmt::Write;
 
+/// By engine: ours, the Rust with our functions, the Rust with its own.
 const COLOURS: [&str; 3] = ["#1b6ca8", "#c8741a", "#8a8f98"];
 
 pub struct Svg {
@@ -27,11 +28,11 @@ impl Svg {
         let p: Vec<String> = points.iter().map(|(x, y)| format!("{x:.1},{y:.1}")).collect();
         writeln!(self.text, "<polyline points=\"{}\" fill=\"none\" stroke=\"{colour}\" stroke-width=\"{width}\"/>", p.join(" ")).unwrap();
     }
-    /// What the colours mean.
-    pub fn key(&mut self, x: f64, y: f64, names: &[&str]) {
+    /// What the colours mean, from engine `first` on.
+    pub fn key(&mut self, x: f64, y: f64, first: usize, names: &[&str]) {
         for (i, name) in names.iter().enumerate() {
             let x = x + 210.0 * i as f64;
-            self.bar(x, y - 9.0, 10.0, 10.0, COLOURS[i]);
+            self.bar(x, y - 9.0, 10.0, 10.0, COLOURS[first + i]);
             self.text(x + 15.0, y, "start", name);
         }
     }
@@ -41,17 +42,17 @@ impl Svg {
         format!("<svg {head} width=\"{w}\" height=\"{h}\">\n<rect width=\"{w}\" height=\"{h}\" fill=\"#fff\"/>\n{}</svg>\n", self.text)
     }
 
-    /// Groups of two bars each, with a line at 1: above it ours is faster.
+    /// Groups of two bars each, with a line at 1: above it ours is faster. Bars are cut at 8, or the others would not be seen.
     pub fn ratios(&mut self, x: f64, y: f64, title: &str, groups: &[(String, [f64; 2])]) {
         let (w, h) = (330.0, 130.0);
-        let top = groups.iter().flat_map(|g| g.1).fold(2.0, f64::max).ceil();
+        let top = groups.iter().flat_map(|g| g.1).fold(2.0, f64::max).ceil().min(8.0);
         let step = w / groups.len() as f64;
         self.bold(x, y, title);
         for (i, (name, values)) in groups.iter().enumerate() {
             let left = x + step * i as f64;
             for (k, v) in values.iter().enumerate() {
-                let tall = h * v / top;
-                self.bar(left + 4.0 + 22.0 * k as f64, y + 22.0 + h - tall, 20.0, tall, COLOURS[k]);
+                let tall = h * v.min(top) / top;
+                self.bar(left + 4.0 + 22.0 * k as f64, y + 22.0 + h - tall, 20.0, tall, COLOURS[1 + k]);
                 self.text(left + 14.0 + 22.0 * k as f64, y + 18.0 + h - tall, "middle", &format!("{v:.1}"));
             }
             self.text(left + 25.0, y + 36.0 + h, "middle", name);

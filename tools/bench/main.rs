@@ -72,7 +72,7 @@ fn shape_chart(cases: &[Case]) -> String {
         let (x, y) = (20.0 + 365.0 * (i % 2) as f64, 26.0 + 200.0 * (i / 2) as f64);
         svg.ratios(x, y, &of_shape[0].name, &of_shape.iter().map(bar).collect::<Vec<_>>());
     }
-    svg.key(20.0, 436.0, &["Rust with our exp, tanh / ours", "Rust with its own / ours"]);
+    svg.key(20.0, 436.0, 1, &["Rust with our exp, tanh / ours", "Rust with its own / ours"]);
     svg.finish()
 }
 
@@ -84,7 +84,7 @@ fn growth_chart(cases: &[Case]) -> String {
         let (x, y) = (40.0 + 240.0 * (i % 3) as f64, 26.0 + 200.0 * (i / 3) as f64);
         svg.growth(x, y, &format!("{what}, blocks of {}", grown[0].n), &values, &lines);
     }
-    svg.key(40.0, 426.0, &["ours", "Rust with our exp, tanh", "Rust with its own"]);
+    svg.key(40.0, 426.0, 0, &["ours", "Rust with our exp, tanh", "Rust with its own"]);
     svg.finish()
 }
 

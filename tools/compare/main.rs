@@ -2,6 +2,7 @@
 
 mod play;
 mod program;
+mod same;
 mod sample;
 mod theirs;
 mod tiny;
@@ -9,7 +10,8 @@ mod tiny;
 use common::desk::{Desk, DESCRIPTION, SIZES};
 use common::random::Random;
 use common::{invent, library, shapes};
-use play::{Counts, Length, Play};
+use play::{Length, Play};
+use same::Counts;
 use std::time::Instant;
 
 struct Run {
@@ -73,12 +75,33 @@ impl Run {
     /// Play `index` of the random ones: most of them small, so that there are many.
     fn random(&mut self, index: u64) -> Result<(), String> {
         let mut r = Random::new(self.seed, u64::MAX - index);
-        let (reach, work) = if index % 4 == 0 { (invent::WHOLE, 4_000_000) } else { (invent::SMALL, 200_000) };
+        let (reach, work) = match index % 64 {
+            0 => (invent::WHOLE, 60_000_000),
+            i if i % 4 == 0 => (invent::WHOLE, 4_000_000),
+            _ => (invent::SMALL, 200_000),
+        };
         let (d, _) = invent::description(&mut r, reach);
         self.play(r, &d, Length { calls: 12, work }).map_err(|e| format!("play {index}: {e}\n  {d:?}"))
     }
 
+    /// Descriptions at the library's limits: the longest ring, the widest layers in blocks of 1024, the most weights.
+    fn extremes(&mut self) -> Result<(), String> {
+        let of = |channels: u32, layers: usize, y: &[u32]| [&[1, 32, channels, channels, 32, 16, 1, layers as u32], &y.repeat(layers)[..]].concat();
+        let ring = [32, 16, 2048, 1, 1, 0, 0, 0, 0, 0, 1, 1, 0, 0, 0, 0, 0, 0, 0, 0, 0, 0, 0, 0];
+        let wide = [32, 3, 9, 1, 1, 2, 0, 0, 2, 0, 1, 1, 32, 1, 1, 1, 1, 1, 1, 1, 1, 1, 1, 255];
+        let heavy = [32, 7, 1, 1, 1, 1, 0, 0, 2, 0, 1, 1, 32, 1, 1, 1, 1, 1, 1, 1, 1, 1, 1, 255];
+        for (i, d) in [of(32, 1, &ring), of(32, 1, &wide), of(32, 24, &heavy)].iter().enumerate() {
+            assert!(shapes::take_apart(d).is_ok(), "the limits are missed");
+            for again in 0..4 {
+                let r = Random::new(self.seed, (1 << 40) + 4 * i as u64 + again);
+                self.play(r, d, Length { calls: 6, work: 60_000_000 }).map_err(|e| format!("at the limits: {e}\n  {d:?}"))?;
+            }
+        }
+        Ok(())
+    }
+
     fn all(&mut self, plays: u64) -> Result<(), String> {
+        self.extremes()?;
         self.tiny(0, tiny::PLAIN, 25 * plays)?;
         self.tiny(tiny::PLAIN, tiny::ALL, 5 * plays)?;
         for i in 0..plays {
@@ -114,9 +137,12 @@ fn main() {
     if args.first().is_some_and(|a| a == "--sample") {
         return sample::write_all(&args[1], number(2, 1));
     }
-    let one = args.first().is_some_and(|a| a == "--one");
     let mut run = Run::new(number(1, 1));
-    let result = if one { run.random(number(2, 0)) } else { run.all(number(0, 2000)) };
+    let result = match args.first().map(String::as_str) {
+        Some("--one") => run.random(number(2, 0)),
+        Some("--tiny") => run.tiny(0, tiny::ALL, tiny::ALL),
+        _ => run.all(number(0, 4000)),
+    };
     report(&run, &result);
     if result.is_err() {
         std::process::exit(1);

@@ -1,27 +1,14 @@
 //! One play: a description with weights, and a sequence of calls from a reset or from any other memory, on three engines. After every call the outputs,
 //! histories and positions of all three are equal, bit for bit with all NaNs as one.
 
+use crate::same::{same_floats, same_words, Counts, Same};
 use crate::theirs::{self, Original};
-use common::calls::{self, Answer, Block, Way};
+use common::calls::{self, Block, Way};
 use common::desk::{Desk, ARRAY_OUT, CONDITION, DESCRIPTION, HEAD_IN, HEAD_OUT, HISTORIES, INPUT, NAMES, PLAN, POSITIONS, WEIGHTS};
+use common::invent;
 use common::random::{Kind, Random};
 use common::recurrence::{self, Engine, Memory};
 use common::shapes::Array;
-use common::{bits, invent};
-
-/// What has been done so far.
-#[derive(Default)]
-pub struct Counts {
-    pub plays: u64,
-    pub calls: u64,
-    pub refused: u64,
-    pub columns: u64,
-    pub numbers: u64,
-    pub nans: u64,
-}
-
-/// The first difference, said in words.
-pub type Same = Result<(), String>;
 
 /// How long a play is, and what its numbers are.
 #[derive(Clone, Copy, Debug)]
@@ -39,27 +26,6 @@ pub struct Play<'a> {
     theirs: Option<Original>,
     desk: &'a mut Desk,
     counts: &'a mut Counts,
-}
-
-fn same_floats(counts: &mut Counts, what: &str, who: &str, a: &[f32], b: &[f32]) -> Same {
-    counts.numbers += a.len() as u64;
-    counts.nans += a.iter().filter(|x| x.is_nan()).count() as u64;
-    if a.len() != b.len() {
-        return Err(format!("{what}: {} numbers by the recurrence, {} by {who}", a.len(), b.len()));
-    }
-    match (0..a.len()).find(|i| bits(a[*i]) != bits(b[*i])) {
-        Some(i) => Err(format!("{what}[{i}] is {:08x} by the recurrence, {:08x} by {who}", bits(a[i]), bits(b[i]))),
-        None => Ok(()),
-    }
-}
-
-fn same_words(counts: &mut Counts, what: &str, who: &str, a: &[u32], b: &[u32]) -> Same {
-    counts.numbers += a.len() as u64;
-    if a == b {
-        Ok(())
-    } else {
-        Err(format!("{what}: {a:?} by the recurrence, {b:?} by {who}"))
-    }
 }
 
 impl<'a> Play<'a> {
@@ -129,29 +95,6 @@ impl<'a> Play<'a> {
         Block { input: numbers(a.input), condition: numbers(a.condition), head_in: numbers(a.head_in) }
     }
 
-    /// The Rust on n columns: as one block, or as smaller blocks and single columns.
-    fn by_theirs(&mut self, n: usize, b: &Block) -> Option<Answer> {
-        let (t, r) = (self.theirs.as_mut()?, &mut self.r);
-        let whole = r.once_in(2);
-        let (mut heads, mut arrays, mut done) = (vec![], vec![], 0);
-        while done < n {
-            let m = if whole { n } else { r.within(1, n - done) };
-            let cut = |x: &[f32]| calls::planar(&(done..done + m).map(|t| calls::column_of(x, n, t)).collect::<Vec<_>>());
-            let (input, condition, head_in) = (cut(&b.input), cut(&b.condition), cut(&b.head_in));
-            let mut head = vec![f32::NAN; self.array.head_size * m];
-            let mut out = vec![f32::NAN; self.array.channels * m];
-            if m == 1 && r.once_in(2) {
-                t.column(&input, &condition, &head_in, &mut head, &mut out);
-            } else {
-                t.block(&input, &condition, &head_in, &mut head, &mut out, m);
-            }
-            heads.extend((0..m).map(|t| calls::column_of(&head, m, t)));
-            arrays.extend((0..m).map(|t| calls::column_of(&out, m, t)));
-            done += m;
-        }
-        Some(Answer { head_out: calls::planar(&heads), array_out: calls::planar(&arrays) })
-    }
-
     /// Everything for a call of ours on its desk.
     fn lay(&mut self, way: &Way, b: &Block) {
         let n = way.columns();
@@ -179,7 +122,8 @@ impl<'a> Play<'a> {
             return Err(format!("refused {number}"));
         }
         let answer = calls::run(&mut self.plain, way, &b);
-        if let Some(t) = self.by_theirs(n, &b) {
+        if let Some(t) = &mut self.theirs {
+            let t = theirs::run(t, &mut self.r, self.array, n, &b);
             same_floats(self.counts, "head_out", "the Rust", &answer.head_out, &t.head_out)?;
             same_floats(self.counts, "array_out", "the Rust", &answer.array_out, &t.array_out)?;
         }
