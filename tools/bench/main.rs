@@ -110,6 +110,10 @@ fn main() {
         "Nanoseconds a column, the best of {} short runs of each engine, taken in turns; a ratio is the Rust's time / ours.\n",
         timing::ROUNDS * timing::RUNS
     );
+    println!(
+        "The exported exp and tanh make their tables anew in every call, where a block of ours makes them once: the Rust with our functions pays for"
+    );
+    println!("that, and the last column, with its own, is the one to go by.\n");
     println!("## Ten layers of 16 channels\n");
     table(shapes);
     println!("## Growth: mode None with Tanh\n");

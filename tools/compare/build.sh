@@ -2,6 +2,7 @@
 # Builds what the comparison, the fault runs and the benchmark share, into target/compare. Sourced by their run.sh from the root of the repository.
 #   prepare DIR      the library, the plain recurrence, and the original Rust of DIR where it is there
 #   program NAME     tools/NAME's program, as target/compare/NAME
+#   start NAME ..    that program, run
 # Only copies under target/ are patched; nothing of the original comes into the repository.
 build=target/compare
 flags=(--edition 2021 -C opt-level=3 -C target-cpu=x86-64 --check-cfg 'cfg(library, original, test)')
@@ -62,15 +63,23 @@ library() {
 }
 
 prepare() {
+    command -v rustc >/dev/null || { echo "skipped: there is no rustc to build this with"; exit 0; }
     mkdir -p $build
     library
     if [ -f "$1/src/wavenet/array.rs" ]; then original "$1"; else echo "skipped: the original Rust, for there is no $1/src/wavenet"; fi
     # before the library has its calls, a stand-in made of the recurrence takes their place
-    if nm target/staticlib/libwavenet.a 2>/dev/null | grep -q ' T wavenet_planned$'; then flags+=(--cfg library); fi
+    if [ -n "$(nm target/staticlib/libwavenet.a 2>/dev/null | grep ' T wavenet_planned$')" ]; then flags+=(--cfg library); fi
     rustc "${flags[@]}" --crate-type rlib --crate-name common tools/compare/src/lib.rs -o $build/libcommon.rlib
     flags+=(--extern common=$build/libcommon.rlib)
 }
 
 program() {
     rustc "${flags[@]}" -C link-arg=target/staticlib/libwavenet.a --crate-name "$1" "tools/$1/main.rs" -o "$build/$1"
+}
+
+start() {
+    local code=0
+    "$build/$1" "${@:2}" || code=$?
+    [ $code != 139 ] || echo "$1 ended at a forbidden page: a call went beyond the end of a buffer"
+    return $code
 }

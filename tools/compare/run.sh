@@ -15,4 +15,4 @@ case ${1:-} in
 esac
 prepare "$dir"
 program compare
-exec $build/compare "${@:1:3}"
+start compare "${@:1:3}"

@@ -5,6 +5,6 @@
 set -euo pipefail
 cd "$(dirname "$0")/../.."
 . tools/compare/build.sh
-prepare none >/dev/null
+prepare "" >/dev/null
 program faults
-exec $build/faults "$@"
+start faults "$@"
