@@ -21,6 +21,7 @@ pub struct Length {
 pub struct Play<'a> {
     r: Random,
     signal: Kind,
+    description: &'a [u32],
     array: &'a Array,
     plain: Engine<'a>,
     theirs: Option<Original>,
@@ -32,7 +33,7 @@ impl<'a> Play<'a> {
     /// Everything reset, or, seldom, set to any admitted memory: the calls have to be right from there, too.
     pub fn new(
         mut r: Random,
-        d: &[u32],
+        d: &'a [u32],
         array: &'a Array,
         weights: &'a [f32],
         desk: &'a mut Desk,
@@ -47,7 +48,7 @@ impl<'a> Play<'a> {
         desk.all[POSITIONS].lay(array.convs.len(), at_end()).fill(77);
         desk.all[PLAN].lay(0, at_end());
         let plain = Engine { array, weights, memory: recurrence::reset(array) };
-        let mut p = Play { r, signal, array, plain, theirs, desk, counts };
+        let mut p = Play { r, signal, description: d, array, plain, theirs, desk, counts };
         p.reset()?;
         if p.r.once_in(4) {
             p.set_memory();
@@ -130,13 +131,24 @@ impl<'a> Play<'a> {
         same_floats(self.counts, "head_out", "ours", &answer.head_out, self.desk.all[HEAD_OUT].floats())?;
         same_floats(self.counts, "array_out", "ours", &answer.array_out, self.desk.all[ARRAY_OUT].floats())?;
         self.counts.columns += n as u64;
-        self.only_lent(&b)
+        self.only_lent(way, &b)
     }
 
     /// What is lent for reading is as it was, and nothing around any buffer was touched.
-    fn only_lent(&mut self, b: &Block) -> Same {
+    fn only_lent(&mut self, way: &Way, b: &Block) -> Same {
+        let asked = match way {
+            Way::Planned(_, plan) => self.desk.all[PLAN].words() == plan,
+            _ => true,
+        };
         let kept = |i: usize, x: &[f32]| x.iter().map(|x| x.to_bits()).eq(self.desk.all[i].words().iter().copied());
-        if !(kept(INPUT, &b.input) && kept(CONDITION, &b.condition) && kept(HEAD_IN, &b.head_in) && kept(WEIGHTS, self.plain.weights)) {
+        let described = self.desk.all[DESCRIPTION].words() == self.description;
+        if !(asked
+            && described
+            && kept(INPUT, &b.input)
+            && kept(CONDITION, &b.condition)
+            && kept(HEAD_IN, &b.head_in)
+            && kept(WEIGHTS, self.plain.weights))
+        {
             return Err("a buffer lent for reading has changed".into());
         }
         if !self.desk.zones_kept() {

@@ -9,7 +9,7 @@ use common::{bits, shapes};
 use std::fs;
 use std::path::Path;
 
-/// The largest file in bytes, and its description's in numbers: the cases are kept in the repository.
+/// The largest file in bytes: the cases are kept in the repository.
 const MOST_BYTES: usize = 6000;
 
 /// Case A of document 01.

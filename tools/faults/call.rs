@@ -81,7 +81,7 @@ impl Call {
         }
     }
 
-    /// The highest refusal this call knows.
+    /// Whether this call gives the number at all.
     pub fn knows(&self, number: u32) -> bool {
         match self.which {
             SIZES => number <= 5,
