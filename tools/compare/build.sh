@@ -1,6 +1,6 @@
 #!/usr/bin/env bash
 # Builds what the comparison, the fault runs and the benchmark share, into target/compare. Sourced by their run.sh from the root of the repository.
-#   prepare DIR      the library, the plain recurrence, and the original Rust of DIR where it is there
+#   prepare [DIR]    the library, the plain recurrence, and the original Rust of DIR where it is there
 #   program NAME     tools/NAME's program, as target/compare/NAME
 #   start NAME ..    that program, run
 # Only copies under target/ are patched; nothing of the original comes into the repository.
@@ -66,7 +66,11 @@ prepare() {
     command -v rustc >/dev/null || { echo "skipped: there is no rustc to build this with"; exit 0; }
     mkdir -p $build
     library
-    if [ -f "$1/src/wavenet/array.rs" ]; then original "$1"; else echo "skipped: the original Rust, for there is no $1/src/wavenet"; fi
+    if [ -f "${1:-}/src/wavenet/array.rs" ]; then
+        original "$1"
+    elif [ -n "${1:-}" ]; then
+        echo "skipped: the original Rust, for there is no $1/src/wavenet"
+    fi
     # before the library has its calls, a stand-in made of the recurrence takes their place
     if [ -n "$(nm target/staticlib/libwavenet.a 2>/dev/null | grep ' T wavenet_planned$')" ]; then flags+=(--cfg library); fi
     rustc "${flags[@]}" --crate-type rlib --crate-name common tools/compare/src/lib.rs -o $build/libcommon.rlib

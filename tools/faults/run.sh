@@ -5,6 +5,6 @@
 set -euo pipefail
 cd "$(dirname "$0")/../.."
 . tools/compare/build.sh
-prepare "" >/dev/null
+prepare
 program faults
 start faults "$@"
