@@ -20,5 +20,11 @@ bash examples/play.sh | tail -n +2 | diff examples/c/expected.txt -
 echo "== the proved exp and tanh against MPFR, a sample of patterns"
 bash tools/measure/run.sh 20011
 
+echo "== the library, the original Rust and a plain recurrence, bit for bit"
+bash tools/compare/run.sh
+
+echo "== bad input at scale: right numbers, nothing touched"
+bash tools/faults/run.sh
+
 echo "== rt ci: proofs from nothing, must-fail edits, programs"
 rt ci
