@@ -9,6 +9,10 @@ ghost use Rattle.description.specs.Answers.{listed};
 ghost use Rattle.description.specs.Refusals.{refusalOf};
 ghost use Rattle.description.specs.Sizes.{sizesOf};
 ghost use Rattle.reset.specs.Resets.{Resets};
+ghost use Rattle.array.specs.Refusals.{blockRefusal, columnRefusal, plannedRefusal};
+ghost use Rattle.array.specs.Calls.{Answers};
+ghost use Rattle.admit.specs.Admits.{lentOf};
+ghost use Rattle.calls.specs.Fit.{leftOf};
 ghost use Rattle.wavenet.specs.Small.{Small};
 use description::answers::Checked;
 use description::answers::Sizes;
@@ -68,4 +72,109 @@ pub extern "C" fn wavenet_reset(
     ensures { λ r. ⌜ Resets (now (description .entry)) (now (histories .entry)) (now (positions .entry)) r (now (histories .exit)) (now (positions .exit)) ⌝ }
 {
     reset::reset(description, histories, positions)
+}
+
+// A single column: 0 and the outputs, histories and positions of the recurrence; or the refusal 1 to 5, 7 or 8, and all buffers stay as they were.
+#[no_mangle]
+pub extern "C" fn wavenet_column(
+    description: &[u32],
+    weights: &[f32],
+    histories: &mut [f32],
+    positions: &mut [u32],
+    input: &[f32],
+    condition: &[f32],
+    head_in: &[f32],
+    head_out: &mut [f32],
+    array_out: &mut [f32],
+    scratch: &mut [f32],
+) -> u32
+    ensures { λ r. ⌜ Answers (lentOf (now (description .entry)) (now (weights .entry)) (now (histories .entry)) (now (positions .entry)) (now (input .entry)) (now (condition .entry))
+        (now («head_in» .entry)) (now («head_out» .entry)) (now («array_out» .entry)) (now (scratch .entry))) 1 (columnRefusal (lentOf (now (description .entry)) (now (weights .entry)) (now (histories .entry)) (now (positions .entry)) (now (input .entry)) (now (condition .entry))
+        (now («head_in» .entry)) (now («head_out» .entry)) (now («array_out» .entry)) (now (scratch .entry))))
+        (leftOf r (now (histories .exit)) (now (positions .exit)) (now («head_out» .exit)) (now («array_out» .exit)) (now (scratch .exit))) ⌝ }
+{
+    calls::column(
+        description,
+        weights,
+        histories,
+        positions,
+        input,
+        condition,
+        head_in,
+        head_out,
+        array_out,
+        scratch,
+    )
+}
+
+// A block of n columns, planar: 0, or the refusal 1 to 8.
+#[no_mangle]
+pub extern "C" fn wavenet_block(
+    description: &[u32],
+    weights: &[f32],
+    histories: &mut [f32],
+    positions: &mut [u32],
+    input: &[f32],
+    condition: &[f32],
+    head_in: &[f32],
+    head_out: &mut [f32],
+    array_out: &mut [f32],
+    scratch: &mut [f32],
+    n: usize,
+) -> u32
+    ensures { λ r. ⌜ Answers (lentOf (now (description .entry)) (now (weights .entry)) (now (histories .entry)) (now (positions .entry)) (now (input .entry)) (now (condition .entry))
+        (now («head_in» .entry)) (now («head_out» .entry)) (now («array_out» .entry)) (now (scratch .entry))) n (blockRefusal (lentOf (now (description .entry)) (now (weights .entry)) (now (histories .entry)) (now (positions .entry)) (now (input .entry)) (now (condition .entry))
+        (now («head_in» .entry)) (now («head_out» .entry)) (now («array_out» .entry)) (now (scratch .entry))) n)
+        (leftOf r (now (histories .exit)) (now (positions .exit)) (now («head_out» .exit)) (now («array_out» .exit)) (now (scratch .exit))) ⌝ }
+{
+    calls::block(
+        description,
+        weights,
+        histories,
+        positions,
+        input,
+        condition,
+        head_in,
+        head_out,
+        array_out,
+        scratch,
+        n,
+    )
+}
+
+// A block of n columns in the turns of a plan: 0, or the refusal 1 to 9.
+#[no_mangle]
+pub extern "C" fn wavenet_planned(
+    description: &[u32],
+    weights: &[f32],
+    histories: &mut [f32],
+    positions: &mut [u32],
+    input: &[f32],
+    condition: &[f32],
+    head_in: &[f32],
+    head_out: &mut [f32],
+    array_out: &mut [f32],
+    scratch: &mut [f32],
+    n: usize,
+    plan: &[u32],
+) -> u32
+    ensures { λ r. ⌜ Answers (lentOf (now (description .entry)) (now (weights .entry)) (now (histories .entry)) (now (positions .entry)) (now (input .entry)) (now (condition .entry))
+        (now («head_in» .entry)) (now («head_out» .entry)) (now («array_out» .entry)) (now (scratch .entry))) n (plannedRefusal (lentOf (now (description .entry)) (now (weights .entry)) (now (histories .entry)) (now (positions .entry)) (now (input .entry)) (now (condition .entry))
+        (now («head_in» .entry)) (now («head_out» .entry)) (now («array_out» .entry)) (now (scratch .entry))) n (now (plan .entry)))
+        (leftOf r (now (histories .exit)) (now (positions .exit)) (now («head_out» .exit)) (now («array_out» .exit)) (now (scratch .exit))) ⌝ }
+{
+    calls::planned(
+        description,
+        weights,
+        histories,
+        positions,
+        input,
+        condition,
+        head_in,
+        head_out,
+        array_out,
+        scratch,
+        n,
+        plan,
+    )
 }
