@@ -14,8 +14,10 @@ need() { # the packages that the quick checks are built with
 }
 
 need gcc libmpfr-dev
-echo "== the example, held to what it should print"
-bash examples/play.sh | tail -n +2 | diff examples/c/expected.txt -
+echo "== the examples, held to what they should print"
+bash examples/play.sh >/dev/null
+target/examples/play | diff examples/c/expected.txt -
+if command -v rustc >/dev/null; then target/examples/play_rust | diff examples/rust/expected.txt -; fi
 
 echo "== the proved exp and tanh against MPFR, a sample of patterns"
 bash tools/measure/run.sh 20011

@@ -98,9 +98,6 @@ fn function_table(all: &[Function]) {
 
 fn main() {
     let dir = std::env::args().nth(1).expect("a folder for the charts");
-    if !library::PRESENT {
-        println!("**ours is a stand-in here: the library's calls are not there yet, and its times below mean nothing**\n");
-    }
     let (mut cases, mut functions) = (shape_cases(), functions());
     let shaped = cases.len();
     cases.extend(growth_cases());

@@ -10,11 +10,7 @@ dir=${1:-../shared/docs/src}
 [ -f "$dir/src/wavenet/array.rs" ] || { echo "skipped: the benchmark, for there is no $dir/src/wavenet"; exit 0; }
 prepare "$dir"
 program bench
-# while the library's calls are missing, nothing is written into docs/
-figures=$build
-case " ${flags[*]} " in *' --cfg library '*) figures=docs/figures ;; esac
-$build/bench $figures | tee $build/speed.md
-[ $figures = docs/figures ] || exit 0
+$build/bench docs/figures | tee $build/speed.md
 {
     echo "# Speed against the Rust"
     echo

@@ -5,7 +5,7 @@
 #   start NAME ..    that program, run
 # Only copies under target/ are patched; nothing of the original comes into the repository.
 build=target/compare
-flags=(--edition 2021 -C opt-level=3 -C target-cpu=x86-64 --check-cfg 'cfg(library, original, test)')
+flags=(--edition 2021 -C opt-level=3 -C target-cpu=x86-64 --check-cfg 'cfg(original, test)')
 
 fail() { echo "$1" >&2; exit 1; }
 
@@ -71,8 +71,6 @@ prepare() {
     elif [ -n "${1:-}" ]; then
         echo "skipped: the original Rust, for there is no $1/src/wavenet"
     fi
-    # before the library has its calls, a stand-in made of the recurrence takes their place
-    if [ -n "$(nm target/staticlib/libwavenet.a 2>/dev/null | grep ' T wavenet_planned$')" ]; then flags+=(--cfg library); fi
     rustc "${flags[@]}" --crate-type rlib --crate-name common tools/compare/src/lib.rs -o $build/libcommon.rlib
     flags+=(--extern common=$build/libcommon.rlib)
 }

@@ -9,7 +9,7 @@ mod tiny;
 
 use common::desk::{Desk, DESCRIPTION, SIZES};
 use common::random::Random;
-use common::{invent, library, shapes};
+use common::{invent, shapes};
 use play::{Length, Play};
 use same::Counts;
 use std::time::Instant;
@@ -113,9 +113,8 @@ impl Run {
 }
 
 fn who() -> String {
-    let ours = if library::PRESENT { "the library" } else { "a stand-in for the library, whose calls are not there yet" };
     let theirs = if theirs::PRESENT { "the original Rust" } else { "(no original Rust)" };
-    format!("{ours}, {theirs}, the plain recurrence")
+    format!("the library, {theirs}, the plain recurrence")
 }
 
 fn report(run: &Run, result: &Result<(), String>) {

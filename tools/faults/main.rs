@@ -9,7 +9,7 @@ mod faults;
 use call::{Call, CALLS};
 use common::desk::{Desk, NAMES};
 use common::random::Random;
-use common::{invent, library, shapes};
+use common::{invent, shapes};
 use faults::Fault;
 use std::time::Instant;
 
@@ -142,9 +142,6 @@ fn main() {
     let alone = vec![0; faults.len()];
     let mut run = Run { r: Random::new(seed, 0), desk: Desk::default(), faults, given: [[0; 10]; 5], alone, together: 0 };
     let result = run.all(calls);
-    if !library::PRESENT {
-        println!("column, block and planned: a stand-in for the library, whose calls are not there yet");
-    }
     run.report();
     match result {
         Ok(()) => println!("0 wrong answers, nothing touched by a refusal, seed {seed}, {:.0} s", started.elapsed().as_secs_f32()),

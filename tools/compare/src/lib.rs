@@ -9,8 +9,6 @@ pub mod library;
 pub mod random;
 pub mod recurrence;
 pub mod shapes;
-#[cfg(not(library))]
-mod standin;
 
 /// A number's pattern, with every NaN as one.
 pub fn bits(x: f32) -> u32 {

@@ -15,15 +15,8 @@ extern "C" {
     fn wavenet_tanh(x: f32) -> f32;
 }
 
-#[cfg(not(library))]
-use crate::standin::{wavenet_block, wavenet_column, wavenet_planned};
-
-/// Whether the column, block and planned calls are the library's: where it has none yet, a stand-in made of the plain recurrence tries the tools.
-pub const PRESENT: bool = cfg!(library);
-
 macro_rules! calls {
     ($($name:ident ( $($last:ident : $type:ty),* );)*) => {
-        #[cfg(library)]
         extern "C" {
             $(fn $name(
                 description: *const u32, description_len: usize,
