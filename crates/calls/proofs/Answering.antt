@@ -1,20 +1,18 @@
 -- Each way out of a call meets its contract: refused, no columns, or all columns played. Assumes nothing.
 use mathlib.Core.Path.{_≡_, refl, sym, _∙_, ap, subst}
-use mathlib.Core.Bool.{Bool, true, false, cond, not}
+use mathlib.Core.Bool.{Bool, true, false}
 use mathlib.Core.List.{List, [], _∷_}
-use Prim.Native.Nat.{ℕ, zero, suc, _+_, _-_, _*_, _≤_, _<_}
+use Prim.Native.Nat.{ℕ, _-_, _*_, _≤_}
 use native.Mathlib.Nat.{mul-zero, sub-zero, mul-le-mul}
 use native.Mathlib.Omega.{arith}
 use borrow.Author.Tests.{eq-eqb, ne-eqb}
-use lib.Dec.{eqb}
-use lib.ListN.{length, getD, take}
+use lib.ListN.{length, take}
 use lib.Seq.{length-take-le}
 use lib.Ieee.{Float}
 use Rattle.lists.specs.Tab.{tab}
 use Rattle.turns.specs.Grid.{statesAfter}
 use Rattle.turns.specs.Plan.{keepsRule}
 use Rattle.description.specs.Answers.{numberOf}
-use Rattle.description.specs.Parts.{partsOf}
 use Rattle.description.specs.Records.{arrayOf}
 use Rattle.description.specs.Sizes.{sizesOf, widestOf}
 use Rattle.description.specs.declared.answers.Checked.{Checked}
@@ -22,10 +20,9 @@ use Rattle.description.specs.declared.answers.Checked.the-variants.{Refused, So
 use Rattle.description.specs.declared.answers.Sizes.{Sizes}
 use Rattle.description.proofs.Sound.{widest-most}
 use Rattle.array.specs.Stages.{stageCount}
-use Rattle.array.specs.Memories.{memoriesOf}
 use Rattle.array.specs.Planar.{columnsIn, blockOf}
 use Rattle.array.specs.Lent.{Lent, Left}
-use Rattle.array.specs.Refusals.{blockRefusal, columnRefusal, plannedRefusal, refused9}
+use Rattle.array.specs.Refusals.{blockRefusal, columnRefusal, plannedRefusal}
 use Rattle.array.specs.Calls.{statesFrom, columnsFrom, brought, historiesPlayed, positionsPlayed, headPlayed, arrayPlayed, Answers}
 use Rattle.array.proofs.Views.{histories-are, positions-are}
 use Rattle.admit.specs.Admits.{Admits, Admitted}

@@ -1,18 +1,16 @@
 -- A planned block: one turn after the other, in the plan's order. How far the stages are is what the rule calls their limit. Assumes nothing.
 use mathlib.Core.Path.{_≡_, refl, sym, _∙_, ap}
-use mathlib.Core.Bool.{cond, true}
+use mathlib.Core.Bool.{true}
 use mathlib.Core.List.{List}
 use mathlib.Core.Logic.{⊎-elim}
-use Prim.Native.Nat.{ℕ, zero, suc, _+_, _-_, _*_, _/_, _≤_, _<_}
+use Prim.Native.Nat.{ℕ, zero, suc, _+_, _*_, _/_, _≤_, _<_}
 use native.Mathlib.Omega.{arith}
 use borrow.Author.Tests.{eq-eqb, ne-eqb}
-use lib.Dec.{eqb}
 use lib.ListN.{length, getD, drop, replicate, length-replicate}
 use Rattle.lists.proofs.Nums.{le-or-lt}
 use Rattle.lists.proofs.Tab.{at-tab, length-tab}
 use Rattle.turns.specs.Plan.{limit, taken, keepsFrom, keepsRule}
 use Rattle.turns.proofs.Rule.{Allowed, NonePast, limit-le, none-past-first, none-past-more, turn-allowed, rest-keeps, whole-turn, all-reached, taken-same, taken-other, length-taken, rule-first}
-use Rattle.description.specs.declared.places.Place.{Place}
 use Rattle.array.specs.Stages.{stageCount}
 use Rattle.array.specs.Lent.{Lent, given}
 use Rattle.array.specs.Turn.{Changing, TurnDone, startOf}

@@ -1,12 +1,12 @@
 -- A block: one turn a stage, each over all columns. Assumes nothing.
-use mathlib.Core.Path.{_≡_, refl, sym, _∙_, ap}
+use mathlib.Core.Path.{_≡_, refl}
 use mathlib.Core.Bool.{cond}
 use mathlib.Core.List.{List}
 use mathlib.Core.Logic.{⊎-elim}
-use Prim.Native.Nat.{ℕ, zero, suc, _+_, _*_, _≤_, _<_}
+use Prim.Native.Nat.{ℕ, zero, suc, _+_, _≤_, _<_}
 use native.Mathlib.Omega.{arith}
 use borrow.Author.Tests.{lt-ltb, le-ltb, eq-eqb, ne-eqb}
-use lib.Dec.{ltb, eqb}
+use lib.Dec.{ltb}
 use lib.ListN.{length}
 use Rattle.lists.proofs.Nums.{le-or-lt}
 use Rattle.array.specs.Stages.{stageCount, firstPart}
@@ -14,7 +14,6 @@ use Rattle.array.specs.Lent.{Lent, given}
 use Rattle.array.specs.Turn.{Changing, TurnDone, startOf}
 use Rattle.array.proofs.Turning.{moved}
 use Rattle.description.specs.Sizes.{placeAt, placeOf, total}
-use Rattle.description.specs.declared.places.Place.{Place}
 use Rattle.stage.specs.Turns.{Placed, changingOf}
 use Rattle.calls.specs.Fit.{Fit, Done}
 use Rattle.calls.proofs.UnderWay.{UnderWay, atFirst, begins-as, goes-on, ends}

@@ -13,7 +13,7 @@ use Rattle.description.specs.Parts.{partsOf, slotsOf, rechannelOf, headRechanne
 use Rattle.description.specs.Ranges.{ArrayRanges, LayerRanges, Low, Fits}
 use Rattle.description.specs.Records.{arrayOf, layerOf}
 use Rattle.description.specs.Refusals.{refusalOf}
-use Rattle.description.specs.Sizes.{weightsOf, historiesOf, positionsOf, total, placeAt, placeOf, pastOf}
+use Rattle.description.specs.Sizes.{weightsOf, historiesOf, positionsOf, placeAt, placeOf, pastOf}
 use Rattle.description.specs.Tally.{pastAll}
 use Rattle.description.specs.declared.parts.Part.{Part}
 use Rattle.description.specs.declared.parts.Part.the-variants.{Absent}
@@ -22,7 +22,7 @@ use Rattle.description.specs.declared.records.ArrayRecord.{ArrayRecord}
 use Rattle.description.specs.declared.records.LayerRecord.{LayerRecord}
 use Rattle.description.proofs.Sound.{array-in-range, layer-in-range, part-first, part-last, part-in-range, place-next, length-parts, weights-most, histories-most, positions-most}
 use Rattle.layer.proofs.Places.{total-le}
-use Rattle.array.specs.Stages.{firstPart, stageCount}
+use Rattle.array.specs.Stages.{firstPart}
 use Rattle.array.specs.Turn.{startOf}
 use Rattle.stage.proofs.Through.{layer-next}
 

@@ -3,31 +3,24 @@
 use mathlib.Core.Path.{_≡_, refl, sym, _∙_, ap}
 use mathlib.Core.Bool.{cond}
 use mathlib.Core.List.{List}
-use mathlib.Core.Logic.{⊎-elim}
 use Prim.Native.Nat.{ℕ, zero, suc, _+_, _-_, _*_, _≤_, _<_}
 use native.Mathlib.Omega.{arith}
-use borrow.Author.Tests.{lt-ltb, le-ltb, eq-eqb, ne-eqb}
-use lib.Dec.{ltb, eqb}
-use lib.ListN.{length, getD}
-use lib.Ieee.{Float}
-use Rattle.lists.proofs.Nums.{le-or-lt}
+use borrow.Author.Tests.{le-ltb, ne-eqb}
+use lib.Dec.{ltb}
+use lib.ListN.{length}
 use Rattle.ring.specs.Memory.{Memory}
-use Rattle.turns.specs.Turn.{Standing, Fresh}
 use Rattle.turns.proofs.AnyOrder.{Good, fresh-good, turn-good, plan-ends}
 use Rattle.description.specs.Parts.{partsOf}
-use Rattle.description.specs.Records.{arrayOf}
 use Rattle.description.specs.Sizes.{historiesOf, positionsOf, total, widestOf, sizesOf}
-use Rattle.description.specs.Refusals.{refusalOf}
 use Rattle.array.specs.Stages.{Column, stageCount, next, out}
 use Rattle.array.specs.Memories.{memoriesOf}
-use Rattle.array.specs.Lent.{Lent, Given, given}
+use Rattle.array.specs.Lent.{Lent, given}
 use Rattle.array.specs.Turn.{Changing, comes, between, past, standing, startOf, TurnDone}
 use Rattle.array.proofs.Turning.{moved, turned}
 use Rattle.array.proofs.Ended.{array-is, head-is, histories-is, positions-is}
 use Rattle.stage.specs.Turns.{Placed, StageFits, Blocks, changingOf}
 use Rattle.stage.specs.declared.span.Span.{Span}
 use Rattle.description.specs.declared.places.Place.{Place}
-use Rattle.admit.specs.Admits.{Admitted}
 use Rattle.calls.specs.Fit.{Fit, Done}
 
 module _ (b : Lent) where

@@ -1,14 +1,13 @@
 -- The copies around a layer do what they say. Assumes nothing.
-use mathlib.Core.Path.{_≡_, refl, sym, _∙_, ap}
+use mathlib.Core.Path.{_≡_, _∙_}
 use mathlib.Core.List.{List}
-use Prim.Native.Nat.{ℕ, suc, _+_, _*_, _≤_, _<_, min, max}
+use Prim.Native.Nat.{ℕ, _+_, _*_, _≤_, _<_}
 use native.Mathlib.Omega.{arith}
 use lib.ListN.{length}
 use lib.Ieee.{Float, nan}
 use Rattle.lists.specs.Tab.{at, rows}
-use Rattle.lists.specs.Region.{Apart, Holds, Strip, Beside, Free}
+use Rattle.lists.specs.Region.{Apart, Beside, Free}
 use Rattle.lists.proofs.Nums.{row-end}
-use Rattle.lists.proofs.Rows.{length-rows}
 use Rattle.lists.proofs.Regions.{free-then, holds-as, holds-free, strip-as, strip-free, rows-free, rows-holds, rows-strip, rows-beside}
 use Rattle.description.specs.declared.records.ArrayRecord.{ArrayRecord}
 use Rattle.stage.specs.declared.span.Span.{Span}

@@ -1,8 +1,8 @@
 -- Stage 0: the steps of its turn are a turn by the definition. Assumes nothing.
 use mathlib.Core.Path.{_≡_, refl, sym, _∙_, ap, subst}
 use mathlib.Core.List.{List, [], _∷_}
-use Prim.Native.Nat.{ℕ, zero, suc, _+_, _-_, _*_, _≤_, _<_, min, max}
-use native.Mathlib.Nat.{add-zero, zero-add}
+use Prim.Native.Nat.{ℕ, _+_, _*_, _≤_, _<_}
+use native.Mathlib.Nat.{zero-add}
 use native.Mathlib.Omega.{arith}
 use lib.ListN.{length, getD}
 use lib.Ieee.{Float, nan}
@@ -13,7 +13,7 @@ use borrow.Author.Tests.{lt-ltb}
 use Rattle.stage.proofs.Placing.{placed-on, not-both}
 use Rattle.lists.proofs.Tab.{at-tab, tab-ext}
 use Rattle.lists.proofs.Rows.{length-rows}
-use Rattle.lists.proofs.Regions.{free-self, free-then, free-as, holds-as, holds-free, rows-free, rows-holds, rows-strip, rows-beside, strip-as, strip-free}
+use Rattle.lists.proofs.Regions.{free-then, free-as, rows-free, rows-holds, rows-strip, rows-beside, strip-as, strip-free}
 use Rattle.ring.specs.Memory.{Memory}
 use Rattle.shape.specs.declared.Shape.{Shape}
 use Rattle.shape.specs.Counts.{historyCount, ringLength}
@@ -39,7 +39,7 @@ use Rattle.array.specs.Planar.{columnIn}
 use Rattle.array.specs.Lent.{Given}
 use Rattle.array.specs.Turn.{Changing, startOf, columnAt, comes, between, past, entering, leaving, TurnDone}
 use Rattle.stage.specs.declared.span.Span.{Span}
-use Rattle.stage.specs.Turns.{Placed, StageFits, FirstTurn, givenOf, changingOf}
+use Rattle.stage.specs.Turns.{StageFits, FirstTurn, givenOf, changingOf}
 use Rattle.stage.proofs.Columns.{column-of, beside-column, column-kept}
 use Rattle.stage.proofs.Widths.{Room, array-room, part-fits}
 use Rattle.stage.proofs.Single.{single-remembers, single-gives}

@@ -1,20 +1,19 @@
 -- Stage L + 1: the steps of its turn are a turn by the definition. Assumes nothing.
-use mathlib.Core.Path.{_≡_, refl, sym, _∙_, ap, subst}
+use mathlib.Core.Path.{_≡_, sym, _∙_, ap, subst}
 use mathlib.Core.List.{List, [], _∷_}
-use Prim.Native.Nat.{ℕ, zero, suc, _+_, _-_, _*_, _≤_, _<_, min, max}
-use native.Mathlib.Nat.{add-zero, zero-add}
+use Prim.Native.Nat.{ℕ, suc, _+_, _*_, _≤_, _<_}
+use native.Mathlib.Nat.{add-zero}
 use native.Mathlib.Omega.{arith}
 use lib.ListN.{length, getD}
 use lib.Seq.{take-all}
 use lib.Ieee.{Float, nan}
 use Rattle.lists.specs.Tab.{at, tab, rows}
-use Rattle.lists.specs.Region.{Apart, Holds, Strip, Free, Beside}
+use Rattle.lists.specs.Region.{Apart, Holds, Strip, Free}
 use Rattle.lists.proofs.Nums.{row-end}
 use borrow.Author.Tests.{le-ltb}
 use Rattle.stage.proofs.Placing.{number-in, placed-on, not-both}
 use Rattle.lists.proofs.Tab.{at-tab, tab-ext}
-use Rattle.lists.proofs.Rows.{length-rows}
-use Rattle.lists.proofs.Regions.{free-self, free-then, free-as, holds-as, holds-free, rows-free, rows-holds, rows-strip, rows-beside, strip-as, strip-free}
+use Rattle.lists.proofs.Regions.{free-then, free-as, rows-free, rows-holds, rows-strip, rows-beside, strip-as}
 use Rattle.ring.specs.Memory.{Memory}
 use Rattle.shape.specs.declared.Shape.{Shape}
 use Rattle.shape.specs.Counts.{historyCount, ringLength}
@@ -38,9 +37,9 @@ use Rattle.array.specs.Stages.{Column, partAt, firstPart, partCount, memoryAt, 
 use Rattle.array.specs.Memories.{memoriesOf, memoryOfPart}
 use Rattle.array.specs.Planar.{columnIn}
 use Rattle.array.specs.Lent.{Given}
-use Rattle.array.specs.Turn.{Changing, startOf, columnAt, comes, between, past, entering, leaving, TurnDone}
+use Rattle.array.specs.Turn.{Changing, startOf, columnAt, between, past, entering, leaving, TurnDone}
 use Rattle.stage.specs.declared.span.Span.{Span}
-use Rattle.stage.specs.Turns.{Placed, StageFits, LastTurn, givenOf, changingOf}
+use Rattle.stage.specs.Turns.{StageFits, LastTurn, givenOf, changingOf}
 use Rattle.stage.proofs.Columns.{block-column, block-kept, column-kept}
 use Rattle.stage.proofs.Widths.{Room, array-room, part-fits}
 use Rattle.stage.proofs.Single.{single-remembers, single-gives}

@@ -4,14 +4,14 @@ use mathlib.Core.List.{List}
 use mathlib.Core.Logic.{_⊎_, ⊎-elim}
 use Prim.Native.Nat.{ℕ, suc, _+_, _*_, _≤_, _<_}
 use native.Mathlib.Omega.{arith}
-use lib.ListN.{length, getD}
+use lib.ListN.{length}
 use lib.Ieee.{Float}
 use Rattle.shape.specs.declared.Shape.{Shape}
 use Rattle.description.specs.Numbers.{layerCount}
 use Rattle.description.specs.Parts.{partsOf, slotsOf, partOf}
 use Rattle.description.specs.Ranges.{ArrayRanges, LayerRanges, Low}
 use Rattle.description.specs.Records.{arrayOf, layerOf}
-use Rattle.description.specs.Sizes.{weightsOf, historiesOf, positionsOf, total, placeAt, placeOf, widestOf}
+use Rattle.description.specs.Sizes.{weightsOf, historiesOf, positionsOf, placeAt, placeOf}
 use Rattle.description.specs.Tally.{pastAll}
 use Rattle.description.specs.declared.parts.Part.the-variants.{There}
 use Rattle.description.specs.declared.places.Place.{Place}
@@ -26,7 +26,7 @@ use Rattle.array.specs.Turn.{startOf}
 use Rattle.stage.specs.declared.span.Span.{Span}
 use Rattle.stage.specs.Turns.{StageFits, LayerTurn}
 use Rattle.stage.specs.Copies.{CopyFits, Brought, HandedOn}
-use Rattle.stage.proofs.Widths.{Room, room, array-room, array-room-of, size-most, from-small}
+use Rattle.stage.proofs.Widths.{room, array-room, array-room-of, size-most, from-small}
 use Rattle.stage.proofs.Through.{slot-is, slot-place, layer-next, layer-turn-is}
 
 module _ {d : List ℕ} {span : Span} {k : ℕ} {start : Place} {nweights nhistories : ℕ} {positions : List ℕ} {nscratch : ℕ}

@@ -1,11 +1,11 @@
 -- After a turn every position is below its ring length: the stage's own by the turn, all others since they were left. Assumes nothing.
-use mathlib.Core.Path.{_≡_, refl, sym, _∙_, ap}
-use mathlib.Core.List.{List, [], _∷_}
+use mathlib.Core.Path.{_≡_, sym, _∙_}
+use mathlib.Core.List.{List}
 use mathlib.Core.Logic.{⊎-elim}
-use Prim.Native.Nat.{ℕ, zero, suc, _+_, _-_, _*_, _≤_, _<_, min, max}
+use Prim.Native.Nat.{ℕ, suc, _+_, _≤_, _<_}
 use native.Mathlib.Omega.{arith}
 use lib.ListN.{length, getD, take, List·getD-eq-default}
-use Rattle.lists.specs.Region.{Apart, Free}
+use Rattle.lists.specs.Region.{Free}
 use Rattle.lists.proofs.Nums.{le-or-lt}
 use Rattle.shape.specs.declared.Shape.{Shape}
 use Rattle.shape.specs.Counts.{ringLength}
@@ -15,7 +15,7 @@ use Rattle.description.specs.declared.parts.Part.{Part}
 use Rattle.description.specs.declared.parts.Part.the-variants.{Absent, There}
 use Rattle.layer.proofs.Places.{total-more, total-mono}
 use Rattle.array.specs.Stages.{firstPart}
-use Rattle.array.specs.Turn.{startOf, OutsidePositions}
+use Rattle.array.specs.Turn.{OutsidePositions}
 use Rattle.stage.specs.Turns.{Placed}
 
 pub not-both : {sh : Shape} → Absent ≡ There sh → ⊥

@@ -1,9 +1,8 @@
 -- A stage of one part: over the columns of a turn it remembers and gives what the recurrence says. Assumes nothing.
-use mathlib.Core.Path.{_≡_, refl, sym, _∙_, ap}
+use mathlib.Core.Path.{_≡_, sym, _∙_, ap}
 use mathlib.Core.List.{List, [], _∷_}
-use Prim.Native.Nat.{ℕ, zero, suc, _+_, _*_, _≤_, _<_}
+use Prim.Native.Nat.{ℕ, zero, suc, _+_}
 use lib.Ieee.{Float}
-use lib.ListN.{getD}
 use Rattle.lists.specs.Region.{Holds}
 use Rattle.ring.specs.Memory.{Memory}
 use Rattle.shape.specs.declared.Shape.{Shape}

@@ -1,15 +1,14 @@
 -- A layer's turn: copies in, the layer, copies back are a turn by the definition. Assumes nothing.
-use mathlib.Core.Path.{_≡_, refl, sym, _∙_, ap, subst}
-use mathlib.Core.Logic.{_⊎_, ⊎-elim}
-use mathlib.Core.List.{List, [], _∷_}
-use Prim.Native.Nat.{ℕ, zero, suc, _+_, _-_, _*_, _≤_, _<_, min, max}
+use mathlib.Core.Path.{_≡_, refl, sym, _∙_, ap}
+use mathlib.Core.List.{List, []}
+use Prim.Native.Nat.{ℕ, zero, suc, _+_, _-_, _*_, _≤_, _<_}
 use native.Mathlib.Nat.{add-zero, zero-add}
 use native.Mathlib.Omega.{arith}
 use borrow.Author.Tests.{lt-ltb}
-use lib.ListN.{length, getD, take}
+use lib.ListN.{length, getD}
 use lib.Ieee.{Float, nan}
 use Rattle.lists.specs.Tab.{at, tab}
-use Rattle.lists.specs.Region.{Apart, Holds, Strip, Beside, Free}
+use Rattle.lists.specs.Region.{Apart, Holds, Beside, Free}
 use Rattle.lists.proofs.Nums.{row-end}
 use Rattle.lists.proofs.Tab.{length-tab, at-tab, is-tab, tab-ext}
 use Rattle.lists.proofs.Regions.{free-then, free-as, holds-as}
@@ -20,15 +19,13 @@ use Rattle.turns.specs.Turn.{runFrom}
 use Rattle.description.specs.Numbers.{layerCount}
 use Rattle.description.specs.Parts.{partsOf, slotsOf, partOf}
 use Rattle.description.specs.Records.{arrayOf, layerOf}
-use Rattle.description.specs.Sizes.{weightsOf, historiesOf, positionsOf, total, placeAt, placeOf, widestOf}
+use Rattle.description.specs.Sizes.{placeAt, widestOf}
 use Rattle.description.specs.Tally.{pastAll}
-use Rattle.description.specs.declared.parts.Part.{Part}
 use Rattle.description.specs.declared.parts.Part.the-variants.{Absent, There}
 use Rattle.description.specs.declared.places.Place.{Place}
 use Rattle.description.specs.declared.records.ArrayRecord.{ArrayRecord}
 use Rattle.description.specs.declared.records.LayerRecord.{LayerRecord}
 use Rattle.description.proofs.Sound.{part-slot, place-next, length-parts}
-use Rattle.slot.specs.View.{weightsIn, memoryIn}
 use Rattle.layer.specs.Column.{signal, accumulated, after}
 use Rattle.layer.specs.Layered.{slotPlace, slotMemory, slotWeights, memoriesAt, LayeredAs, Layered}
 use Rattle.layer.proofs.Places.{slot-first, slot-next}
@@ -36,12 +33,12 @@ use Rattle.array.specs.Stages.{Column, partAt, firstPart, partCount, memoryAt, 
 use Rattle.array.specs.Memories.{memoriesOf, memoryOfPart}
 use Rattle.array.specs.Planar.{columnIn}
 use Rattle.array.specs.Lent.{Given}
-use Rattle.array.specs.Turn.{Changing, startOf, columnAt, comes, between, past, entering, leaving, TurnDone}
+use Rattle.array.specs.Turn.{Changing, startOf, columnAt, between, past, entering, leaving, TurnDone}
 use Rattle.stage.specs.declared.span.Span.{Span}
-use Rattle.stage.specs.Turns.{Placed, StageFits, LayerTurn, givenOf, changingOf}
-use Rattle.stage.specs.Copies.{CopyFits, Brought, HandedOn}
+use Rattle.stage.specs.Turns.{StageFits, LayerTurn, givenOf, changingOf}
+use Rattle.stage.specs.Copies.{Brought, HandedOn}
 use Rattle.stage.proofs.Columns.{column-of, beside-column, column-kept}
-use Rattle.stage.proofs.Widths.{Room, array-room, size-most, from-small}
+use Rattle.stage.proofs.Widths.{Room, array-room}
 use Rattle.stage.proofs.Placing.{placed-on}
 use Rattle.stage.proofs.Twelve.{none, after-ext, signal-ext, accumulated-ext}
 

@@ -1,8 +1,7 @@
 -- The turn of each kind of stage is the turn of stage k. Assumes nothing.
-use mathlib.Core.Path.{_≡_, sym, _∙_, ap, subst}
+use mathlib.Core.Path.{_≡_, sym, subst}
 use mathlib.Core.List.{List}
-use Prim.Native.Nat.{ℕ, suc, _+_, _-_, _*_, _≤_, _<_}
-use native.Mathlib.Omega.{arith}
+use Prim.Native.Nat.{ℕ, suc}
 use lib.Ieee.{Float}
 use Rattle.description.specs.Numbers.{layerCount}
 use Rattle.description.specs.declared.places.Place.{Place}

@@ -1,6 +1,6 @@
 -- What a layer does with a column rests on twelve weights and twelve memories, and on nothing else that the two functions of a slot number give.
 -- Assumes nothing.
-use mathlib.Core.Path.{_≡_, refl, sym, _∙_, ap}
+use mathlib.Core.Path.{_≡_, refl, sym, _∙_}
 use mathlib.Core.List.{List, []}
 use Prim.Native.Nat.{ℕ, _<_}
 use lib.ListN.{getD}

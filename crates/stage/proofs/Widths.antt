@@ -1,28 +1,24 @@
 -- What a turn's needs come to in numbers: every width times the columns fits a region, and the stage's numbers lie within the buffers. Assumes nothing.
 use mathlib.Core.Path.{_≡_, sym, _∙_, ap, subst}
 use mathlib.Core.List.{List}
-use Prim.Native.Nat.{ℕ, suc, _+_, _*_, _≤_, _<_, min, max}
+use Prim.Native.Nat.{ℕ, suc, _+_, _*_, _≤_, _<_}
 use native.Mathlib.Nat.{mul-le-mul, mul-le-mul-right}
 use native.Mathlib.Omega.{arith}
 use lib.ListN.{length, getD}
-use lib.Ieee.{Float}
 use Rattle.shape.specs.declared.Shape.{Shape}
-use Rattle.shape.specs.Counts.{InRange, ringLength, historyCount, weightCount}
-use Rattle.shape.specs.Groups.{Divided}
+use Rattle.shape.specs.Counts.{historyCount, weightCount}
 use Rattle.description.specs.Parts.{partsOf}
 use Rattle.description.specs.Ranges.{Low, Fits}
 use Rattle.description.specs.Records.{arrayOf}
-use Rattle.description.specs.Sizes.{weightsOf, historiesOf, positionsOf, total, placeAt, widestOf, arrayWidths}
+use Rattle.description.specs.Sizes.{weightsOf, historiesOf, positionsOf, placeAt, widestOf, arrayWidths}
 use Rattle.description.specs.declared.parts.Part.the-variants.{Absent, There}
 use Rattle.description.specs.declared.places.Place.{Place}
 use Rattle.description.specs.declared.records.ArrayRecord.{ArrayRecord}
 use Rattle.lists.specs.Region.{Apart}
 use Rattle.slot.specs.Play.{PlayFits}
 use Rattle.description.proofs.Sound.{array-width-le, widest-most, widest-least, part-in-range, part-divided, weights-within, histories-within, positions-within, weights-most, histories-most, positions-most}
-use Rattle.array.specs.Stages.{firstPart}
-use Rattle.array.specs.Turn.{startOf}
 use Rattle.stage.specs.declared.span.Span.{Span}
-use Rattle.stage.specs.Turns.{StageFits, Placed}
+use Rattle.stage.specs.Turns.{StageFits}
 
 -- a width no larger than W, times the columns of the turn and of the block
 pub record Room (w : ℕ) (span : Span) : Type 0 where

@@ -1,17 +1,9 @@
-use mathlib.Core.Path.{_≡_, refl, sym, _∙_, ap}
-use Prim.Native.Nat.{ℕ, _+_, _*_, _-_, _/_, _%_, _≤_, _<_}
+-- Each way out meets the contract (Answering): refused, no columns, played.
 use native.Mathlib.Omega.{arith}
-use lib.ListN.{length, set, take, drop, length-set}
-use lib.Ieee.{Float, nan, binary32, add, mul}
 use borrow.Author.Needs.{needs}
 use Rattle.calls.proofs.Answering.{block-refused, nothing-as, played-as, fit-of, sound-block, sound-admitted, size-is, size-low, used-in, cut-long}
 use Rattle.calls.proofs.block.Statement.{statement}
 use Rattle.calls.proofs.block.Tie as tie
-use Rattle.calls.proofs.block.Reads as reads
-use Rattle.calls.proofs.block.Lts as lts
-use Rattle.admit.proofs.call.Reads as call-reads
-use Rattle.calls.proofs.stages.stages_in_order.Reads as stages-in-order-reads
-use Rattle.description.proofs.answers.Checked.number.Reads as number-reads
 
 -- src/lib.rt:35:9
 call-requires : tie.Need-call-requires

@@ -1,15 +1,8 @@
-use mathlib.Core.Path.{_≡_, refl, sym, _∙_, ap}
-use Prim.Native.Nat.{ℕ, _+_, _*_, _-_, _/_, _%_, _≤_, _<_}
-use native.Mathlib.Omega.{arith}
-use lib.ListN.{length, set, take, drop, length-set}
-use lib.Ieee.{Float, nan, binary32, add, mul}
+-- A block of one.
 use borrow.Author.Needs.{needs}
 use Rattle.calls.proofs.Answering.{column-as}
 use Rattle.calls.proofs.column.Statement.{statement}
 use Rattle.calls.proofs.column.Tie as tie
-use Rattle.calls.proofs.column.Reads as reads
-use Rattle.calls.proofs.column.Lts as lts
-use Rattle.calls.proofs.block.Reads as block-reads
 
 -- src/lib.rt:92:5
 block-requires : tie.Need-block-requires

@@ -1,21 +1,13 @@
-use mathlib.Core.Path.{_≡_, refl, sym, _∙_, ap}
-use Prim.Native.Nat.{ℕ, _+_, _*_, _-_, _/_, _%_, _≤_, _<_}
+-- Each way out meets the contract (Answering): refused by 1 to 8, by 9, no columns, played.
+use mathlib.Core.Path.{ap}
+use Prim.Native.Nat.{ℕ, _+_}
 use native.Mathlib.Omega.{arith}
-use lib.ListN.{length, set, take, drop, length-set}
-use lib.Ieee.{Float, nan, binary32, add, mul}
 use borrow.Author.Needs.{needs}
 use Rattle.description.proofs.Sound.{length-is, layers-are, layers-of}
 use borrow.Author.Tests.{not-false, not-true}
 use Rattle.calls.proofs.Answering.{planned-refused, plan-refused, plan-kept, rule-told, nothing-as, played-as, fit-of, sound-admitted, size-is, size-low, used-in, cut-long}
 use Rattle.calls.proofs.planned.Statement.{statement}
 use Rattle.calls.proofs.planned.Tie as tie
-use Rattle.calls.proofs.planned.Reads as reads
-use Rattle.calls.proofs.planned.Lts as lts
-use Rattle.admit.proofs.call.Reads as call-reads
-use Rattle.admit.proofs.plan.keeps_rule.Reads as keeps-rule-reads
-use Rattle.calls.proofs.plans.by_plan.Reads as by-plan-reads
-use Rattle.description.proofs.answers.Checked.number.Reads as number-reads
-use Rattle.description.proofs.records.read_array.Reads as read-array-reads
 
 -- src/lib.rt:127:9
 call-requires : tie.Need-call-requires

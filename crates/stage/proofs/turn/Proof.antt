@@ -1,19 +1,11 @@
-use mathlib.Core.Path.{_≡_, refl, sym, _∙_, ap}
-use Prim.Native.Nat.{ℕ, suc, _+_, _*_, _-_, _/_, _%_, _≤_, _<_}
+-- Each of the three ways is a turn of stage k (Turning).
+use Prim.Native.Nat.{suc, _-_}
 use native.Mathlib.Omega.{arith}
-use lib.ListN.{length, set, take, drop, length-set}
-use lib.Ieee.{Float, nan, binary32, add, mul}
 use borrow.Author.Needs.{needs}
 use Rattle.description.proofs.Sound.{length-is, layers-of}
 use Rattle.stage.proofs.Turning.{fits-as, turn-first, turn-layer, turn-last}
 use Rattle.stage.proofs.turn.Statement.{statement}
 use Rattle.stage.proofs.turn.Tie as tie
-use Rattle.stage.proofs.turn.Reads as reads
-use Rattle.stage.proofs.turn.Lts as lts
-use Rattle.description.proofs.records.read_array.Reads as read-array-reads
-use Rattle.stage.proofs.first.rechannel_turn.Reads as rechannel-turn-reads
-use Rattle.stage.proofs.last.head_turn.Reads as head-turn-reads
-use Rattle.stage.proofs.middle.layer_turn.Reads as layer-turn-reads
 
 -- src/lib.rt:44:9
 rechannel-turn-requires : tie.Need-rechannel-turn-requires

@@ -1,17 +1,12 @@
-use mathlib.Core.Path.{_≡_, refl, sym, _∙_, ap}
-use Prim.Native.Nat.{ℕ, _+_, _*_, _-_, _/_, _%_, _≤_, _<_}
+-- As many numbers as there are stages are lent of each array, those of `reached` zeros.
+use mathlib.Core.Path.{ap}
+use Prim.Native.Nat.{ℕ, _+_, _≤_}
 use native.Mathlib.Omega.{arith}
-use lib.ListN.{length, set, take, drop, length-set}
-use lib.Ieee.{Float, nan, binary32, add, mul}
 use borrow.Author.Needs.{needs}
 use Rattle.description.proofs.Sound.{length-is, layers-are, layers-of}
 use Rattle.calls.proofs.Starting.{zeros-cut, zeros-long}
 use Rattle.calls.proofs.plans.by_plan.Statement.{statement}
 use Rattle.calls.proofs.plans.by_plan.Tie as tie
-use Rattle.calls.proofs.plans.by_plan.Reads as reads
-use Rattle.calls.proofs.plans.by_plan.Lts as lts
-use Rattle.calls.proofs.plans.from_starts.Reads as from-starts-reads
-use Rattle.description.proofs.records.read_array.Reads as read-array-reads
 
 -- src/plans.rt:132:9
 read-array-requires : tie.Need-read-array-requires

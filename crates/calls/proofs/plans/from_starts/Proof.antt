@@ -1,15 +1,7 @@
-use mathlib.Core.Path.{_≡_, refl, sym, _∙_, ap}
-use Prim.Native.Nat.{ℕ, _+_, _*_, _-_, _/_, _%_, _≤_, _<_}
-use native.Mathlib.Omega.{arith}
-use lib.ListN.{length, set, take, drop, length-set}
-use lib.Ieee.{Float, nan, binary32, add, mul}
+-- The starts first, then the turns.
 use borrow.Author.Needs.{needs}
 use Rattle.calls.proofs.plans.from_starts.Statement.{statement}
 use Rattle.calls.proofs.plans.from_starts.Tie as tie
-use Rattle.calls.proofs.plans.from_starts.Reads as reads
-use Rattle.calls.proofs.plans.from_starts.Lts as lts
-use Rattle.calls.proofs.plans.turns_in_order.Reads as turns-in-order-reads
-use Rattle.calls.proofs.starts.starts.Reads as starts-reads
 
 -- src/plans.rt:106:5
 starts-requires : tie.Need-starts-requires

@@ -1,8 +1,8 @@
+-- The loop keeps UnderWay and OnPlan: the stages are where the plan's turns so far took them, and the rest of the plan keeps the rule (ByPlan).
 use mathlib.Core.Path.{_≡_, refl, sym, _∙_, ap}
-use Prim.Native.Nat.{ℕ, _+_, _*_, _-_, _/_, _%_, _≤_, _<_}
+use Prim.Native.Nat.{_+_, _*_, _-_, _/_, _≤_}
 use native.Mathlib.Omega.{arith}
-use lib.ListN.{length, set, take, drop, length-set}
-use lib.Ieee.{Float, nan, binary32, add, mul}
+use lib.ListN.{length}
 use borrow.Author.Needs.{needs}
 use lib.ListN.{getD, length-replicate}
 use Rattle.turns.specs.Plan.{limit, taken}
@@ -14,9 +14,6 @@ use Rattle.calls.proofs.UnderWay.{UnderWay, turn-fits, blocks-fit}
 use Rattle.calls.proofs.ByPlan.{OnPlan, plan-begins, this-turn, within-block, plan-goes-on, planned-begins, planned-goes-on, planned-ends, start-of, starts-long}
 use Rattle.calls.proofs.plans.turns_in_order.Statement.{statement}
 use Rattle.calls.proofs.plans.turns_in_order.Tie as tie
-use Rattle.calls.proofs.plans.turns_in_order.Reads as reads
-use Rattle.calls.proofs.plans.turns_in_order.Lts as lts
-use Rattle.stage.proofs.turn.Reads as turn-reads
 
 abbrev Inv-loop : tie.InvT-loop
 Inv-loop description weights histories₀ positions₀ input condition head-in head-out₀ array-out₀ scratch₀ plan reached₀ weights-at histories-at positions-at size n turns i₀ histories positions head-out array-out scratch reached i =

@@ -1,9 +1,8 @@
+-- The loop keeps UnderWay: the stages before k have taken all columns, the others none (InOrder).
 use mathlib.Core.Path.{_≡_, refl, sym, _∙_, ap}
-use Prim.Native.Nat.{ℕ, _+_, _*_, _-_, _/_, _%_, _≤_, _<_}
+use Prim.Native.Nat.{ℕ, _+_, _-_, _≤_}
 use native.Mathlib.Numerals.{add-one}
 use native.Mathlib.Omega.{arith}
-use lib.ListN.{length, set, take, drop, length-set}
-use lib.Ieee.{Float, nan, binary32, add, mul}
 use borrow.Author.Needs.{needs}
 use Rattle.description.proofs.Sound.{length-is, layers-are, layers-of}
 use Rattle.array.specs.Stages.{stageCount}
@@ -15,10 +14,6 @@ use Rattle.calls.proofs.UnderWay.{UnderWay, turn-fits, blocks-fit}
 use Rattle.calls.proofs.InOrder.{firstDone, start-first, block-begins, block-goes-on, block-ends}
 use Rattle.calls.proofs.stages.stages_in_order.Statement.{statement}
 use Rattle.calls.proofs.stages.stages_in_order.Tie as tie
-use Rattle.calls.proofs.stages.stages_in_order.Reads as reads
-use Rattle.calls.proofs.stages.stages_in_order.Lts as lts
-use Rattle.description.proofs.records.read_array.Reads as read-array-reads
-use Rattle.stage.proofs.turn.Reads as turn-reads
 
 abbrev Inv-loop : tie.InvT-loop
 Inv-loop description weights histories₀ positions₀ input condition head-in head-out₀ array-out₀ scratch₀ size n stages span start₀ k₀ histories positions head-out array-out scratch start k =

@@ -1,20 +1,11 @@
-use mathlib.Core.Path.{_≡_, refl, sym, _∙_, ap}
-use Prim.Native.Nat.{ℕ, _+_, _*_, _-_, _/_, _%_, _≤_, _<_}
+-- Each of the three kinds of stage ends where Starting says.
+use mathlib.Core.Path.{_∙_}
 use native.Mathlib.Omega.{arith}
-use lib.ListN.{length, set, take, drop, length-set}
-use lib.Ieee.{Float, nan, binary32, add, mul}
 use borrow.Author.Needs.{needs}
 use Rattle.description.proofs.Sound.{length-is, layers-of}
 use Rattle.calls.proofs.Starting.{first-fits, first-after, slots-low, layer-after, last-fits, last-after}
 use Rattle.calls.proofs.starts.after_stage.Statement.{statement}
 use Rattle.calls.proofs.starts.after_stage.Tie as tie
-use Rattle.calls.proofs.starts.after_stage.Reads as reads
-use Rattle.calls.proofs.starts.after_stage.Lts as lts
-use Rattle.description.proofs.parts.head_rechannel.Reads as head-rechannel-reads
-use Rattle.description.proofs.parts.rechannel.Reads as rechannel-reads
-use Rattle.description.proofs.places.Place.past.Reads as past-reads
-use Rattle.description.proofs.records.layer_record.Reads as layer-record-reads
-use Rattle.layer.proofs.slots.slots_from.Reads as slots-from-reads
 
 -- src/starts.rt:25:27
 rechannel-requires : tie.Need-rechannel-requires

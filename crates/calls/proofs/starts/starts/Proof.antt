@@ -1,9 +1,9 @@
-use mathlib.Core.Path.{_≡_, refl, sym, _∙_, ap}
-use Prim.Native.Nat.{ℕ, _+_, _*_, _-_, _/_, _%_, _≤_, _<_}
+-- The loop fills three lists with the starts of the stages before k.
+use mathlib.Core.Path.{_≡_, sym, _∙_, ap}
+use Prim.Native.Nat.{ℕ, _+_, _-_, _≤_}
 use native.Mathlib.Numerals.{add-one}
 use native.Mathlib.Omega.{arith}
-use lib.ListN.{length, set, take, drop, length-set}
-use lib.Ieee.{Float, nan, binary32, add, mul}
+use lib.ListN.{length}
 use borrow.Author.Needs.{needs}
 use Rattle.lists.specs.Tab.{fill}
 use Rattle.lists.proofs.Fill.{fill-none, fill-step}
@@ -17,10 +17,6 @@ use Rattle.calls.proofs.InOrder.{start-first}
 use Rattle.calls.proofs.Starting.{filled}
 use Rattle.calls.proofs.starts.starts.Statement.{statement}
 use Rattle.calls.proofs.starts.starts.Tie as tie
-use Rattle.calls.proofs.starts.starts.Reads as reads
-use Rattle.calls.proofs.starts.starts.Lts as lts
-use Rattle.calls.proofs.starts.after_stage.Reads as after-stage-reads
-use Rattle.description.proofs.records.read_array.Reads as read-array-reads
 
 abbrev Inv-loop : tie.InvT-loop
 Inv-loop description weights-at₀ histories-at₀ positions-at₀ a stages start₀ k₀ weights-at histories-at positions-at start k =

@@ -1,16 +1,8 @@
-use mathlib.Core.Path.{_≡_, refl, sym, _∙_, ap}
-use Prim.Native.Nat.{ℕ, _+_, _*_, _-_, _/_, _%_, _≤_, _<_}
-use native.Mathlib.Omega.{arith}
-use lib.ListN.{length, set, take, drop, length-set}
-use lib.Ieee.{Float, nan, binary32, add, mul}
+-- Three copies, one after the other: Copying says what they come to.
 use borrow.Author.Needs.{needs}
 use Rattle.stage.proofs.Copying.{brought}
 use Rattle.stage.proofs.copies.bring.Statement.{statement}
 use Rattle.stage.proofs.copies.bring.Tie as tie
-use Rattle.stage.proofs.copies.bring.Reads as reads
-use Rattle.stage.proofs.copies.bring.Lts as lts
-use Rattle.carry.proofs.columns.Reads as columns-reads
-use Rattle.carry.proofs.columns_within.Reads as columns-within-reads
 
 -- src/copies.rt:24:36
 mul-columns-within : tie.Need-mul-columns-within

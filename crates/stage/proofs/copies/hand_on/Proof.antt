@@ -1,15 +1,8 @@
-use mathlib.Core.Path.{_≡_, refl, sym, _∙_, ap}
-use Prim.Native.Nat.{ℕ, _+_, _*_, _-_, _/_, _%_, _≤_, _<_}
-use native.Mathlib.Omega.{arith}
-use lib.ListN.{length, set, take, drop, length-set}
-use lib.Ieee.{Float, nan, binary32, add, mul}
+-- Two copies, one after the other: Copying says what they come to.
 use borrow.Author.Needs.{needs}
 use Rattle.stage.proofs.Copying.{handed-on}
 use Rattle.stage.proofs.copies.hand_on.Statement.{statement}
 use Rattle.stage.proofs.copies.hand_on.Tie as tie
-use Rattle.stage.proofs.copies.hand_on.Reads as reads
-use Rattle.stage.proofs.copies.hand_on.Lts as lts
-use Rattle.carry.proofs.columns_within.Reads as columns-within-reads
 
 -- src/copies.rt:41:5
 columns-within-requires : tie.Need-columns-within-requires

@@ -1,23 +1,13 @@
-use mathlib.Core.Path.{_≡_, refl, sym, _∙_, ap}
-use Prim.Native.Nat.{ℕ, _+_, _*_, _-_, _/_, _%_, _≤_, _<_}
+-- Copies and one convolution; each asks what Widths gives, and Entry joins them into a turn of stage 0.
+use mathlib.Core.Path.{sym, _∙_}
 use native.Mathlib.Omega.{arith}
-use lib.ListN.{length, set, take, drop, length-set}
-use lib.Ieee.{Float, nan, binary32, add, mul}
 use borrow.Author.Needs.{needs}
 use Rattle.description.proofs.Sound.{length-is}
-use Rattle.stage.proofs.Widths.{array-room-of, size-most, compact-in, first-in, second-in, first-apart, block-in, count-le, block-as, from-small, play-fits, past-fits}
+use Rattle.stage.proofs.Widths.{array-room-of, size-most, compact-in, first-in, second-in, first-apart, count-le, block-as, from-small, play-fits, past-fits}
 use Rattle.stage.proofs.Entry.{entry-turn, rechannel-part, rechannel-widths, rechannel-there, entry-at}
 use Rattle.description.specs.declared.records.ArrayRecord.{ArrayRecord}
 use Rattle.stage.proofs.first.rechannel_turn.Statement.{statement}
 use Rattle.stage.proofs.first.rechannel_turn.Tie as tie
-use Rattle.stage.proofs.first.rechannel_turn.Reads as reads
-use Rattle.stage.proofs.first.rechannel_turn.Lts as lts
-use Rattle.carry.proofs.columns.Reads as columns-reads
-use Rattle.carry.proofs.columns_within.Reads as columns-within-reads
-use Rattle.description.proofs.parts.rechannel.Reads as rechannel-reads
-use Rattle.description.proofs.places.Place.past.Reads as past-reads
-use Rattle.description.proofs.records.read_array.Reads as read-array-reads
-use Rattle.slot.proofs.play.Reads as play-reads
 
 -- src/first.rt:33:9
 read-array-requires : tie.Need-read-array-requires

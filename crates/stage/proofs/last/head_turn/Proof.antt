@@ -1,8 +1,6 @@
-use mathlib.Core.Path.{_≡_, refl, sym, _∙_, ap}
-use Prim.Native.Nat.{ℕ, _+_, _*_, _-_, _/_, _%_, _≤_, _<_}
+-- Copies and one convolution; each asks what Widths gives, and Exit joins them into a turn of the last stage.
+use mathlib.Core.Path.{sym, _∙_}
 use native.Mathlib.Omega.{arith}
-use lib.ListN.{length, set, take, drop, length-set}
-use lib.Ieee.{Float, nan, binary32, add, mul}
 use borrow.Author.Needs.{needs}
 use Rattle.description.proofs.Sound.{length-is}
 use Rattle.description.specs.declared.records.ArrayRecord.{ArrayRecord}
@@ -10,13 +8,6 @@ use Rattle.stage.proofs.Widths.{array-room-of, size-most, compact-in, f
 use Rattle.stage.proofs.Exit.{exit-turn, head-part, head-widths, head-there}
 use Rattle.stage.proofs.last.head_turn.Statement.{statement}
 use Rattle.stage.proofs.last.head_turn.Tie as tie
-use Rattle.stage.proofs.last.head_turn.Reads as reads
-use Rattle.stage.proofs.last.head_turn.Lts as lts
-use Rattle.carry.proofs.columns.Reads as columns-reads
-use Rattle.carry.proofs.columns_within.Reads as columns-within-reads
-use Rattle.description.proofs.parts.head_rechannel.Reads as head-rechannel-reads
-use Rattle.description.proofs.records.read_array.Reads as read-array-reads
-use Rattle.slot.proofs.play.Reads as play-reads
 
 -- src/last.rt:33:9
 read-array-requires : tie.Need-read-array-requires

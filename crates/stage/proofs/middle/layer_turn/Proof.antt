@@ -1,22 +1,13 @@
-use mathlib.Core.Path.{_≡_, refl, sym, _∙_, ap}
-use Prim.Native.Nat.{ℕ, _+_, _*_, _-_, _/_, _%_, _≤_, _<_}
+-- Copies in, a layer, copies back; Fitting gives each what it asks, and joins them into a turn of a layer.
+use mathlib.Core.Path.{refl, sym, _∙_, ap}
+use Prim.Native.Nat.{_*_}
 use native.Mathlib.Omega.{arith}
-use lib.ListN.{length, set, take, drop, length-set}
-use lib.Ieee.{Float, nan, binary32, add, mul}
 use borrow.Author.Needs.{needs}
 use Rattle.description.proofs.Sound.{length-is}
 use Rattle.description.specs.declared.records.ArrayRecord.{ArrayRecord}
 use Rattle.stage.proofs.Fitting.{copy-fits, layer-fits, slots-fit, end-is, layer-turn, result-past}
 use Rattle.stage.proofs.middle.layer_turn.Statement.{statement}
 use Rattle.stage.proofs.middle.layer_turn.Tie as tie
-use Rattle.stage.proofs.middle.layer_turn.Reads as reads
-use Rattle.stage.proofs.middle.layer_turn.Lts as lts
-use Rattle.description.proofs.records.layer_record.Reads as layer-record-reads
-use Rattle.description.proofs.records.read_array.Reads as read-array-reads
-use Rattle.layer.proofs.layer.Reads as layer-reads
-use Rattle.layer.proofs.slots.slots_from.Reads as slots-from-reads
-use Rattle.stage.proofs.copies.bring.Reads as bring-reads
-use Rattle.stage.proofs.copies.hand_on.Reads as hand-on-reads
 
 -- src/middle.rt:35:9
 read-array-requires : tie.Need-read-array-requires
