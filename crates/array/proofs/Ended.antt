@@ -1,28 +1,23 @@
 -- When all stages stand at n, the buffers hold what the recurrence over the call's columns, one at a time, leaves. Assumes nothing.
 use mathlib.Core.Path.{_≡_, refl, sym, _∙_, ap}
-use mathlib.Core.Bool.{cond}
 use mathlib.Core.List.{List, [], _∷_, _++_}
-use mathlib.Core.Logic.{⊎-elim}
-use Prim.Native.Nat.{ℕ, zero, suc, _+_, _-_, _*_, _/_, _%_, _≤_, _<_}
-use native.Mathlib.Nat.{add-zero, div-add-mod', mod-lt, not-suc-le-zero, eq-or-lt-of-le, le-of-suc-le-suc}
+use Prim.Native.Nat.{ℕ, zero, suc, _+_, _*_, _/_, _%_, _<_}
+use native.Mathlib.Nat.{add-zero, div-add-mod', mod-lt}
 use native.Mathlib.Numerals.{add-one}
-use native.Mathlib.Omega.{arith}
-use borrow.Author.Tests.{lt-ltb, le-ltb}
-use lib.ListN.{length, getD, length-append, List·getD-append}
-use lib.Seq.{getD-append-seam}
+use borrow.Author.Tests.{lt-ltb}
+use lib.ListN.{length, getD}
 use lib.Ieee.{Float, nan}
 use Rattle.lists.specs.Tab.{at, tab}
 use Rattle.lists.proofs.Nums.{div-lt, pos-of-lt}
-use Rattle.lists.proofs.Tab.{length-tab, at-tab, is-tab}
+use Rattle.lists.proofs.Tab.{at-tab, is-tab}
 use Rattle.ring.specs.Memory.{Memory}
-use Rattle.turns.specs.Turn.{Standing}
 use Rattle.turns.proofs.Numbered.{upTo, listed, statesAt, columnAt, states-are, columns-are}
 use Rattle.turns.proofs.AnyOrder.{Ended}
 use Rattle.description.specs.Records.{arrayOf}
 use Rattle.description.specs.Parts.{partsOf}
 use Rattle.description.specs.Sizes.{historiesOf, positionsOf, total}
 use Rattle.array.specs.Stages.{Column, stageCount, next, out}
-use Rattle.array.specs.Memories.{memoriesOf, historiesFrom, positionsFrom}
+use Rattle.array.specs.Memories.{memoriesOf}
 use Rattle.array.specs.Planar.{columnIn, columnsIn, blockOf}
 use Rattle.array.specs.Lent.{Lent, given, Given}
 use Rattle.array.specs.Calls.{noColumn, statesFrom, columnsFrom, brought, historiesPlayed, positionsPlayed, headPlayed, arrayPlayed}

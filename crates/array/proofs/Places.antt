@@ -1,16 +1,16 @@
 -- Where the parts' numbers lie: one after the other, none in common. So what one stage changes leaves the memories of all others. Assumes nothing.
 use mathlib.Core.Path.{_≡_}
-use mathlib.Core.List.{List, [], _∷_}
+use mathlib.Core.List.{List, []}
 use mathlib.Core.Logic.{_⊎_, inl, inr, ⊎-elim}
 use mathlib.Core.Bool.{Bool, true, false, cond}
 use lib.Dec.{ltb}
 use borrow.Author.Tests.{lt-ltb, le-ltb}
-use Prim.Native.Nat.{ℕ, zero, suc, _+_, _-_, _*_, _≤_, _<_}
-use native.Mathlib.Nat.{not-suc-le-zero, le-of-suc-le-suc}
+use Prim.Native.Nat.{ℕ, zero, suc, _+_, _*_, _≤_, _<_}
+use native.Mathlib.Nat.{not-suc-le-zero}
 use native.Mathlib.Omega.{arith}
 use lib.ListN.{length, getD, take, List·getD-eq-default}
 use lib.Ieee.{Float, nan}
-use Rattle.lists.specs.Region.{Apart, Free}
+use Rattle.lists.specs.Region.{Free}
 use Rattle.lists.proofs.Nums.{le-or-lt}
 use Rattle.lists.proofs.Tab.{tab-ext}
 use Rattle.description.specs.Numbers.{layerCount}
@@ -18,13 +18,12 @@ use Rattle.description.specs.Parts.{partsOf}
 use Rattle.description.specs.Sizes.{historiesOf, positionsOf, total, placeOf, placeAt}
 use Rattle.description.specs.declared.parts.Part.{Part}
 use Rattle.description.specs.declared.parts.Part.the-variants.{Absent}
-use Rattle.description.specs.declared.places.Place.{Place}
 use Rattle.slot.specs.View.{memoryIn}
 use Rattle.slot.proofs.Trace.{memory-kept}
 use Rattle.layer.proofs.Places.{total-more, total-mono, total-le}
 use Rattle.array.specs.Stages.{partAt, firstPart, partCount, stageCount}
-use Rattle.array.proofs.Views.{parts-length}
-use Rattle.array.specs.Turn.{startOf, OutsideHistories, OutsidePositions}
+use Rattle.description.proofs.Sound.{length-parts}
+use Rattle.array.specs.Turn.{OutsideHistories, OutsidePositions}
 use Rattle.array.specs.Memories.{memoryOfPart, memoriesOf}
 
 -- ---- stages
@@ -48,11 +47,11 @@ parts-end d (suc l) = omega (arith, count-cases (ltb l (layerCount d)))
 -- and are parts of the description
 pub parts-in : (d : List ℕ) (j : ℕ) → j < stageCount d → firstPart j + partCount d j ≤ length (partsOf d)
 unfolding firstPart partCount
-parts-in d zero h = omega (arith, parts-length d)
+parts-in d zero h = omega (arith, length-parts d)
 parts-in d (suc l) h =
     ⊎-elim
-    (λ (q : layerCount d ≤ l). rw (le-ltb l (layerCount d) q) (omega (arith, parts-length d)))
-    (λ (q : l < layerCount d). rw (lt-ltb l (layerCount d) q) (omega (arith, parts-length d)))
+    (λ (q : layerCount d ≤ l). rw (le-ltb l (layerCount d) q) (omega (arith, length-parts d)))
+    (λ (q : l < layerCount d). rw (lt-ltb l (layerCount d) q) (omega (arith, length-parts d)))
     (le-or-lt (layerCount d) l)
 
 first-last : (d : List ℕ) → 12 * layerCount d + 2 ≤ firstPart (stageCount d)
@@ -65,7 +64,7 @@ beyond-same : (d : List ℕ) (j : ℕ) → stageCount d ≤ j → (histories his
 unfolding memoriesOf memoryOfPart partAt memoryIn
 beyond-same d j l histories histories′ positions positions′ =
     tab-ext (record { history = []; place = 0 }) (partCount d j) _ _ (λ i h.
-    let far : length (partsOf d) ≤ firstPart j + i = omega (arith, parts-length d, first-mono (stageCount d) j l, first-last d) in
+    let far : length (partsOf d) ≤ firstPart j + i = omega (arith, length-parts d, first-mono (stageCount d) j l, first-last d) in
     rw (List·getD-eq-default (partsOf d) Absent far))
 
 module _ (d : List ℕ) (k : ℕ) (histories histories′ : List Float) (positions positions′ : List ℕ)

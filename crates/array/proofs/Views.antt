@@ -6,7 +6,7 @@ use native.Mathlib.Nat.{add-zero, zero-add, suc-add}
 use native.Mathlib.Numerals.{add-one}
 use borrow.Author.Tests.{lt-ltb, le-ltb}
 use native.Mathlib.Omega.{arith}
-use lib.ListN.{length, getD, take, drop, length-append}
+use lib.ListN.{length, getD, take, drop}
 use lib.Seq.{take-add, drop-drop, drop-cons, take-length}
 use lib.Ieee.{Float}
 use Rattle.lists.specs.Part.{part}
@@ -15,14 +15,12 @@ use Rattle.lists.proofs.Tab.{tab-ext}
 use Rattle.ring.specs.Memory.{Memory}
 use Rattle.shape.specs.Counts.{historyCount}
 use Rattle.description.specs.Numbers.{layerCount}
-use Rattle.description.specs.Records.{arrayOf, layerOf}
-use Rattle.description.specs.Parts.{eachLayer, slotsOf, partsTo, partsOf, rechannelOf, headRechannelOf}
-use Rattle.description.specs.declared.records.ArrayRecord.{ArrayRecord}
-use Rattle.description.specs.declared.records.LayerRecord.{LayerRecord}
+use Rattle.description.specs.Parts.{eachLayer, partsOf}
 use Rattle.description.specs.Sizes.{weightsOf, historiesOf, positionsOf, total, placeOf, placeAt, pastOf}
 use Rattle.description.specs.declared.parts.Part.{Part}
 use Rattle.description.specs.declared.parts.Part.the-variants.{Absent, There}
 use Rattle.description.specs.declared.places.Place.{Place}
+use Rattle.description.proofs.Sound.{length-parts}
 use Rattle.slot.specs.View.{memoryIn}
 use Rattle.array.specs.Stages.{partAt, partCount, firstPart, stageCount}
 use Rattle.array.specs.Memories.{memoryOfPart, memoriesOf, allMemories, historiesJoined, positionsJoined, historiesFrom, positionsFrom}
@@ -102,24 +100,6 @@ tab-join none (suc n) m f =
     (tab-join none n m (λ i. f (suc i))
     ∙ ap (λ l. tab n (λ i. f (suc i)) ++ l) (tab-ext none m (λ j. f (suc (n + j))) (λ j. f (suc n + j)) (λ j h. ap f (sym (suc-add n j))))))
 
-slots-length : (a : ArrayRecord) (r : LayerRecord) → length (slotsOf a r) ≡ 12
-unfolding slotsOf
-slots-length a r = refl
-
-layers-length : (d : List ℕ) (n : ℕ) → length (eachLayer (λ l. slotsOf (arrayOf d) (layerOf d l)) n) ≡ 12 * n
-unfolding eachLayer
-layers-length d zero = refl
-layers-length d (suc n) =
-    length-append (eachLayer (λ l. slotsOf (arrayOf d) (layerOf d l)) n) (slotsOf (arrayOf d) (layerOf d n))
-    ∙ rw (layers-length d n, slots-length (arrayOf d) (layerOf d n)) (omega arith)
-
--- the rechannel, twelve parts a layer, the head rechannel
-pub parts-length : (d : List ℕ) → length (partsOf d) ≡ 12 * layerCount d + 2
-unfolding partsOf partsTo
-parts-length d =
-    rw (length-append (rechannelOf (arrayOf d) ∷ eachLayer (λ l. slotsOf (arrayOf d) (layerOf d l)) (layerCount d)) (headRechannelOf (arrayOf d) ∷ []))
-    (let e = layers-length d (layerCount d) in omega arith)
-
 module _ {A : Type 0} (none : A) (d : List ℕ) (g : ℕ → A) where
   -- the table of stage k
   abbrev stage : ℕ → List A
@@ -156,7 +136,7 @@ module _ {A : Type 0} (none : A) (d : List ℕ) (g : ℕ → A) where
       ∙ ap (λ t. t ++ stage (suc n)) (stages-table n (omega arith))
       ∙ ap (λ t. tab (1 + 12 * n) g ++ t) last
       ∙ sym (tab-join none (1 + 12 * n) 1 g)
-      ∙ ap (λ (k : ℕ). tab k g) (omega (arith, parts-length d))
+      ∙ ap (λ (k : ℕ). tab k g) (omega (arith, length-parts d))
 
 -- ---- the whole
 module _ (d : List ℕ) (histories : List Float) (positions : List ℕ) where
