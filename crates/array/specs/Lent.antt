@@ -16,6 +16,21 @@ pub record Lent : Type 0 where
   pub array-out : List Float
   pub scratch : List Float
 
+-- the same buffers, but for what scratch holds
+abbrev pub withScratch : Lent → List Float → Lent
+withScratch b scratch = record {
+  description = b .description;
+  weights = b .weights;
+  histories = b .histories;
+  positions = b .positions;
+  input = b .input;
+  condition = b .condition;
+  head-in = b .head-in;
+  head-out = b .head-out;
+  array-out = b .array-out;
+  scratch = scratch;
+}
+
 -- those that are only read
 pub record Given : Type 0 where
   pub description : List ℕ

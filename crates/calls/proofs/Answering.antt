@@ -21,7 +21,7 @@ use Rattle.description.specs.declared.answers.Sizes.{Sizes}
 use Rattle.description.proofs.Sound.{widest-most}
 use Rattle.array.specs.Stages.{stageCount}
 use Rattle.array.specs.Planar.{columnsIn, blockOf}
-use Rattle.array.specs.Lent.{Lent, Left}
+use Rattle.array.specs.Lent.{Lent, Left, withScratch}
 use Rattle.array.specs.Refusals.{blockRefusal, columnRefusal, plannedRefusal}
 use Rattle.array.specs.Calls.{statesFrom, columnsFrom, brought, historiesPlayed, positionsPlayed, headPlayed, arrayPlayed, Answers}
 use Rattle.array.proofs.Views.{histories-are, positions-are}
@@ -29,21 +29,6 @@ use Rattle.admit.specs.Admits.{Admits, Admitted}
 use Rattle.admit.proofs.Facts.{sound-only, refused-only, planned-none, nine-exactly-when, column-is-block}
 use Rattle.admit.proofs.Letting.{admitted}
 use Rattle.calls.specs.Fit.{Fit, Done, leftOf}
-
--- the call's buffers, with another scratch
-abbrev pub withScratch : Lent → List Float → Lent
-withScratch b scratch = record {
-  description = b .description;
-  weights = b .weights;
-  histories = b .histories;
-  positions = b .positions;
-  input = b .input;
-  condition = b .condition;
-  head-in = b .head-in;
-  head-out = b .head-out;
-  array-out = b .array-out;
-  scratch = scratch;
-}
 
 module _ (b : Lent) (n : ℕ) where
   -- refused: the number, and all as it was

@@ -8,11 +8,11 @@ use lib.Dec.{eqb}
 use lib.ListN.{length}
 use lib.Ieee.{Float}
 use borrow.Author.Tests.{eq-eqb, ne-eqb}
-use Rattle.array.specs.Lent.{Lent, Left}
+use Rattle.array.specs.Lent.{Lent, Left, withScratch}
 use Rattle.array.specs.Refusals.{refused7, refused8, refused9, columnRefusal, blockRefusal, plannedRefusal}
 use Rattle.array.specs.Calls.{statesFrom, columnsFrom, brought, historiesPlayed, positionsPlayed, headPlayed, arrayPlayed}
 use Rattle.demands.specs.Calls.{Kind, column, block, planned, countOf, refusalFor, Meets}
-use Rattle.demands.specs.Results.{Agree, withScratch}
+use Rattle.demands.specs.Results.{Agree}
 
 module _ (kind : Kind) (lent : Lent) (left left′ : Left)
     (m : Meets (record { kind = kind; lent = lent; left = left })) (m′ : Meets (record { kind = kind; lent = lent; left = left′ })) where

@@ -10,7 +10,7 @@ use Rattle.description.specs.Records.{arrayOf}
 use Rattle.array.specs.Stages.{Column, stageCount, next, out}
 use Rattle.array.specs.Memories.{memoriesOf, historiesFrom, positionsFrom}
 use Rattle.array.specs.Planar.{columnsIn, blockOf}
-use Rattle.array.specs.Lent.{Lent, Left}
+use Rattle.array.specs.Lent.{Left}
 use Rattle.array.specs.Calls.{noColumn}
 use Rattle.demands.specs.Calls.{Call, countOf, played, given}
 
@@ -41,21 +41,6 @@ pub record NothingPlayed (calls : List Call) (histories histories′ : List Floa
   pub positions-kept : positions′ ≡ positions
   pub none-played : played calls ≡ []
   pub none-given : given calls ≡ []
-
--- the same buffers, but for what scratch holds
-abbrev pub withScratch : Lent → List Float → Lent
-withScratch b scratch = record {
-  description = b .description;
-  weights = b .weights;
-  histories = b .histories;
-  positions = b .positions;
-  input = b .input;
-  condition = b .condition;
-  head-in = b .head-in;
-  head-out = b .head-out;
-  array-out = b .array-out;
-  scratch = scratch;
-}
 
 module _ (c : Call) where
   abbrev d : List ℕ
