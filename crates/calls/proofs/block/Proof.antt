@@ -1,4 +1,5 @@
 -- Each way out meets the contract (Answering): refused, no columns, played.
+use mathlib.Core.Path.{refl}
 use native.Mathlib.Omega.{arith}
 use borrow.Author.Needs.{needs}
 use Rattle.calls.proofs.Answering.{block-refused, nothing-as, played-as, fit-of, sound-block, sound-admitted, size-is, size-low, used-in, cut-long}
@@ -23,23 +24,23 @@ number-requires c κs = search needs
 
 -- src/lib.rt:37:9
 same-length : tie.Need-same-length
-same-length c = search needs
+same-length c = refl
 
 -- src/lib.rt:37:9
 same-length-2 : tie.Need-same-length-2
-same-length-2 c = search needs
+same-length-2 c = refl
 
 -- src/lib.rt:37:9
 same-length-3 : tie.Need-same-length-3
-same-length-3 c = search needs
+same-length-3 c = refl
 
 -- src/lib.rt:37:9
 same-length-4 : tie.Need-same-length-4
-same-length-4 c = search needs
+same-length-4 c = refl
 
 -- src/lib.rt:37:9
 same-length-5 : tie.Need-same-length-5
-same-length-5 c = search needs
+same-length-5 c = refl
 
 -- src/lib.rt:37:9
 returns : tie.Need-returns
@@ -47,23 +48,23 @@ returns c = block-refused _ (c .before .before .before .before .before .before .
 
 -- src/lib.rt:40:9
 same-length-6 : tie.Need-same-length-6
-same-length-6 c = search needs
+same-length-6 c = refl
 
 -- src/lib.rt:40:9
 same-length-7 : tie.Need-same-length-7
-same-length-7 c = search needs
+same-length-7 c = refl
 
 -- src/lib.rt:40:9
 same-length-8 : tie.Need-same-length-8
-same-length-8 c = search needs
+same-length-8 c = refl
 
 -- src/lib.rt:40:9
 same-length-9 : tie.Need-same-length-9
-same-length-9 c = search needs
+same-length-9 c = refl
 
 -- src/lib.rt:40:9
 same-length-10 : tie.Need-same-length-10
-same-length-10 c = search needs
+same-length-10 c = refl
 
 -- src/lib.rt:40:9
 returns-2 : tie.Need-returns-2

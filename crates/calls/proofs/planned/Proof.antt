@@ -1,5 +1,5 @@
 -- Each way out meets the contract (Answering): refused by 1 to 8, by 9, no columns, played.
-use mathlib.Core.Path.{ap}
+use mathlib.Core.Path.{ap, refl}
 use Prim.Native.Nat.{ℕ, _+_}
 use native.Mathlib.Omega.{arith}
 use borrow.Author.Needs.{needs}
@@ -27,23 +27,23 @@ number-requires c κs = search needs
 
 -- src/lib.rt:141:9
 same-length : tie.Need-same-length
-same-length c = search needs
+same-length c = refl
 
 -- src/lib.rt:141:9
 same-length-2 : tie.Need-same-length-2
-same-length-2 c = search needs
+same-length-2 c = refl
 
 -- src/lib.rt:141:9
 same-length-3 : tie.Need-same-length-3
-same-length-3 c = search needs
+same-length-3 c = refl
 
 -- src/lib.rt:141:9
 same-length-4 : tie.Need-same-length-4
-same-length-4 c = search needs
+same-length-4 c = refl
 
 -- src/lib.rt:141:9
 same-length-5 : tie.Need-same-length-5
-same-length-5 c = search needs
+same-length-5 c = refl
 
 -- src/lib.rt:141:9
 returns : tie.Need-returns
@@ -63,23 +63,23 @@ keeps-rule-requires c κs = omega (arith, layers-are (c .before .before .before 
 
 -- src/lib.rt:145:9
 same-length-6 : tie.Need-same-length-6
-same-length-6 c = search needs
+same-length-6 c = refl
 
 -- src/lib.rt:145:9
 same-length-7 : tie.Need-same-length-7
-same-length-7 c = search needs
+same-length-7 c = refl
 
 -- src/lib.rt:145:9
 same-length-8 : tie.Need-same-length-8
-same-length-8 c = search needs
+same-length-8 c = refl
 
 -- src/lib.rt:145:9
 same-length-9 : tie.Need-same-length-9
-same-length-9 c = search needs
+same-length-9 c = refl
 
 -- src/lib.rt:145:9
 same-length-10 : tie.Need-same-length-10
-same-length-10 c = search needs
+same-length-10 c = refl
 
 -- src/lib.rt:145:9
 returns-2 : tie.Need-returns-2
@@ -87,23 +87,23 @@ returns-2 c = plan-refused _ (c .before .before .before .before .before .before 
 
 -- src/lib.rt:148:9
 same-length-11 : tie.Need-same-length-11
-same-length-11 c = search needs
+same-length-11 c = refl
 
 -- src/lib.rt:148:9
 same-length-12 : tie.Need-same-length-12
-same-length-12 c = search needs
+same-length-12 c = refl
 
 -- src/lib.rt:148:9
 same-length-13 : tie.Need-same-length-13
-same-length-13 c = search needs
+same-length-13 c = refl
 
 -- src/lib.rt:148:9
 same-length-14 : tie.Need-same-length-14
-same-length-14 c = search needs
+same-length-14 c = refl
 
 -- src/lib.rt:148:9
 same-length-15 : tie.Need-same-length-15
-same-length-15 c = search needs
+same-length-15 c = refl
 
 -- src/lib.rt:148:9
 returns-3 : tie.Need-returns-3
