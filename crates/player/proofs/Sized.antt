@@ -1,0 +1,61 @@
+-- What a description that was not refused fits into. Assumes nothing.
+use mathlib.Core.Path.{_≡_, refl, sym, _∙_, ap, subst}
+use mathlib.Core.List.{List}
+use Prim.Native.Nat.{ℕ, _+_, _*_, _≤_, _<_}
+use native.Mathlib.Nat.{mul-le-mul-right}
+use native.Mathlib.Omega.{arith}
+use lib.ListN.{length}
+use Rattle.description.specs.Numbers.{headLength, layerCount, recordAt}
+use Rattle.description.specs.Parts.{partsOf}
+use Rattle.description.specs.Ranges.{Between}
+use Rattle.description.specs.Records.{arrayOf}
+use Rattle.description.specs.Sizes.{positionsOf, sizesOf, total, widestOf}
+use Rattle.description.specs.declared.answers.Sizes.{Sizes}
+use Rattle.description.specs.declared.records.ArrayRecord.{ArrayRecord}
+use Rattle.description.proofs.Sound.{array-in-range, array-width-le, length-is, positions-most}
+use Rattle.description.specs.declared.answers.Checked.{Checked}
+use Rattle.description.specs.declared.answers.Checked.the-variants.{Sound}
+use Rattle.wna.specs.Header.{HeaderAnswers, LowHeader}
+use Rattle.wna.specs.Opening.{Described, Opened}
+use Rattle.wna.specs.declared.header.Header.{Header}
+use Rattle.wna.specs.declared.header.HeaderAnswer.{HeaderAnswer}
+use Rattle.wna.specs.declared.header.HeaderAnswer.the-variants.{Whole}
+use Rattle.wna.proofs.Facts.{header-low, opened-is}
+use Rattle.player.specs.Fits.{Fits, Wide}
+
+module _ (d : List ℕ) (s : Sizes) (block : ℕ) (o : Opened d s block) where
+  widest-is : s .widest ≡ widestOf d
+  unfolding sizesOf
+  widest-is = ap (λ (s : Sizes). s .widest) (o .sizes)
+
+  wide : {w : ℕ} → Between 1 32 w → w ≤ widestOf d → Wide w block
+  wide {w} b le = record { some = b .least; most = b .most; held = omega (arith, o .planar, mul-le-mul-right block le, ap (λ (x : ℕ). x * block) widest-is) }
+
+  fits-of : Fits (arrayOf d) block
+  fits-of =
+      let r = array-in-range d (o .sound) in
+      let le = array-width-le d (o .sound) in
+      record {
+        input = wide (r .input) (le 0);
+        condition = wide (r .condition) (le 1);
+        head = wide (r .head-in) (le 3);
+        outs = wide (r .head-size) (le 4);
+        array = wide (r .channels) (le 2);
+      }
+
+  pub fits-array : {a : ArrayRecord} → a ≡ arrayOf d → Fits a block
+  fits-array e = subst (λ (a : ArrayRecord). Fits a block) (sym e) fits-of
+
+  pub parts-most : s .positions ≤ 290
+  unfolding sizesOf
+  parts-most = rw (ap (λ (s : Sizes). s .positions) (o .sizes)) (positions-most d (o .sound))
+
+  pub long : headLength ≤ length d
+  long = omega (arith, length-is d (o .sound))
+
+-- what the answers tell, once their case is known
+pub low-by : (f : List ℕ) {r : HeaderAnswer} {h : Header} → HeaderAnswers f r → r ≡ Whole h → LowHeader h
+low-by f a e = header-low f (subst (HeaderAnswers f) e a)
+
+pub opened-by : {numbers f numbers′ : List ℕ} {block : ℕ} {r : Checked} {s : Sizes} → Described numbers f block r numbers′ → r ≡ Sound s → Opened numbers′ s block
+opened-by {numbers} {f} {numbers′} {block} a e = opened-is (subst (λ (r : Checked). Described numbers f block r numbers′) e a)
