@@ -1,15 +1,14 @@
 -- What a description that was not refused fits into. Assumes nothing.
-use mathlib.Core.Path.{_≡_, refl, sym, _∙_, ap, subst}
+use mathlib.Core.Path.{_≡_, sym, ap, subst}
 use mathlib.Core.List.{List}
-use Prim.Native.Nat.{ℕ, _+_, _*_, _≤_, _<_}
+use Prim.Native.Nat.{ℕ, _*_, _≤_}
 use native.Mathlib.Nat.{mul-le-mul-right}
 use native.Mathlib.Omega.{arith}
 use lib.ListN.{length}
-use Rattle.description.specs.Numbers.{headLength, layerCount, recordAt}
-use Rattle.description.specs.Parts.{partsOf}
+use Rattle.description.specs.Numbers.{headLength}
 use Rattle.description.specs.Ranges.{Between}
 use Rattle.description.specs.Records.{arrayOf}
-use Rattle.description.specs.Sizes.{positionsOf, sizesOf, total, widestOf}
+use Rattle.description.specs.Sizes.{sizesOf, widestOf}
 use Rattle.description.specs.declared.answers.Sizes.{Sizes}
 use Rattle.description.specs.declared.records.ArrayRecord.{ArrayRecord}
 use Rattle.description.proofs.Sound.{array-in-range, array-width-le, length-is, positions-most}

@@ -1,6 +1,4 @@
 -- What fits into the program's buffers: a block of n columns of an array, planar, as bytes and as text.
-use mathlib.Core.Path.{_≡_}
-use mathlib.Core.List.{List}
 use Prim.Native.Nat.{ℕ, _+_, _*_, _≤_}
 use Rattle.description.specs.declared.records.ArrayRecord.{ArrayRecord}
 

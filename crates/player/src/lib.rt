@@ -3,10 +3,6 @@
 pub mod stream;
 pub mod turn;
 
-ghost use mathlib.Core.Path.{_≡_};
-ghost use Prim.Native.Nat.{_≤_};
-ghost use lib.ListN.{length};
-ghost use Rattle.description.specs.Refusals.{refusalOf};
 ghost use Rattle.wna.specs.Header.{LowHeader};
 ghost use Rattle.wna.specs.Opening.{Opened};
 use crate::stream::last;

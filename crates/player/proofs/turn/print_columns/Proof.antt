@@ -1,111 +1,79 @@
-use lib.ListN.{length-replicate, length-take}
-use Rattle.player.proofs.Room.{text-room}
-use mathlib.Core.Path.{_≡_, refl, sym, _∙_, ap}
-use Prim.Native.Nat.{ℕ, _+_, _*_, _-_, _/_, _%_, _≤_, _<_}
+-- `print_columns` meets its contract. Each planar buffer has room for its part (Fits). Assumes nothing.
 use native.Mathlib.Omega.{arith}
-use lib.ListN.{length, set, take, drop, length-set}
-use lib.Ieee.{Float, nan, binary32, add, mul}
+use lib.ListN.{length-replicate, length-take}
 use borrow.Author.Needs.{needs}
 use Rattle.player.proofs.turn.print_columns.Statement.{statement}
 use Rattle.player.proofs.turn.print_columns.Tie as tie
-use Rattle.player.proofs.turn.print_columns.Reads as reads
-use Rattle.player.proofs.turn.print_columns.Lts as lts
-use Rattle.io.proofs.write_all.Reads as write-all-reads
-use Rattle.player.proofs.turn.play_columns.Reads as play-columns-reads
 
--- src/turn.rt:93:18
 mul-inputs : tie.Need-mul-inputs
 mul-inputs c = record { fits = omega (arith, c .before .before .before .before .before .before .before .before .pre .0 .input .held) }
 
--- src/turn.rt:94:22
 mul-conditions : tie.Need-mul-conditions
 mul-conditions c = record { fits = omega (arith, c .before .before .before .before .before .before .before .before .before .pre .0 .condition .held) }
 
--- src/turn.rt:95:17
 mul-heads : tie.Need-mul-heads
 mul-heads c = record { fits = omega (arith, c .before .before .before .before .before .before .before .before .before .before .pre .0 .head .held) }
 
--- src/turn.rt:96:16
 mul-outs : tie.Need-mul-outs
 mul-outs c = record { fits = omega (arith, c .before .before .before .before .before .before .before .before .before .before .before .pre .0 .outs .held) }
 
--- src/turn.rt:97:18
 mul-arrays : tie.Need-mul-arrays
 mul-arrays c = record { fits = omega (arith, c .before .before .before .before .before .before .before .before .before .before .before .before .pre .0 .array .held) }
 
--- src/turn.rt:105:9
 array-borrow-prefix-input : tie.Need-array-borrow-prefix-input
 array-borrow-prefix-input c = omega (arith, c .before .before .before .before .before .before .before .before .before .before .before .before .before .before .pre .0 .input .held)
 
--- src/turn.rt:105:9
 slice-aggregate-play-columns : tie.Need-slice-aggregate-play-columns
 slice-aggregate-play-columns c = simp (length-take, length-replicate) (omega (arith, c .before .before .before .before .before .before .before .before .before .before .before .before .before .before .before .pre .0 .input .held))
 
--- src/turn.rt:106:9
 array-borrow-prefix-condition : tie.Need-array-borrow-prefix-condition
 array-borrow-prefix-condition c = omega (arith, c .before .before .before .before .before .before .before .before .before .before .before .before .before .before .before .pre .0 .condition .held)
 
--- src/turn.rt:106:9
 slice-aggregate-play-columns-2 : tie.Need-slice-aggregate-play-columns-2
 slice-aggregate-play-columns-2 c = simp (length-take, length-replicate) (omega (arith, c .before .before .before .before .before .before .before .before .before .before .before .before .before .before .before .before .pre .0 .condition .held))
 
--- src/turn.rt:107:9
 array-borrow-prefix-head-in : tie.Need-array-borrow-prefix-head-in
 array-borrow-prefix-head-in c = omega (arith, c .before .before .before .before .before .before .before .before .before .before .before .before .before .before .before .before .pre .0 .head .held)
 
--- src/turn.rt:107:9
 slice-aggregate-play-columns-3 : tie.Need-slice-aggregate-play-columns-3
 slice-aggregate-play-columns-3 c = simp (length-take, length-replicate) (omega (arith, c .before .before .before .before .before .before .before .before .before .before .before .before .before .before .before .before .before .pre .0 .head .held))
 
--- src/turn.rt:108:9
 array-borrow-prefix-head-out : tie.Need-array-borrow-prefix-head-out
 array-borrow-prefix-head-out c = omega (arith, c .before .before .before .before .before .before .before .before .before .before .before .before .before .before .before .before .before .pre .0 .outs .held)
 
--- src/turn.rt:108:9
 slice-aggregate-play-columns-4 : tie.Need-slice-aggregate-play-columns-4
 slice-aggregate-play-columns-4 c = simp (length-take, length-replicate) (omega (arith, c .before .before .before .before .before .before .before .before .before .before .before .before .before .before .before .before .before .before .pre .0 .outs .held))
 
--- src/turn.rt:109:9
 array-borrow-prefix-array-out : tie.Need-array-borrow-prefix-array-out
 array-borrow-prefix-array-out c = omega (arith, c .before .before .before .before .before .before .before .before .before .before .before .before .before .before .before .before .before .before .pre .0 .array .held)
 
--- src/turn.rt:109:9
 slice-aggregate-play-columns-5 : tie.Need-slice-aggregate-play-columns-5
 slice-aggregate-play-columns-5 c = simp (length-take, length-replicate) (omega (arith, c .before .before .before .before .before .before .before .before .before .before .before .before .before .before .before .before .before .before .before .pre .0 .array .held))
 
--- src/turn.rt:98:9
 play-columns-requires : tie.Need-play-columns-requires
 play-columns-requires c κs = (c .before .before .before .before .before .before .before .before .before .before .before .before .before .before .before .before .before .before .before .before .before .pre .0, (c .before .before .before .before .before .before .before .before .before .before .before .before .before .before .before .before .before .before .before .before .before .pre .1, ((simp (length-take, length-replicate) (omega (arith, c .before .before .before .before .before .before .before .before .before .before .before .before .before .before .before .before .before .before .before .before .before .pre .0 .input .held)), simp (length-take, length-replicate) (omega (arith, c .before .before .before .before .before .before .before .before .before .before .before .before .before .before .before .before .before .before .before .before .before .pre .0 .condition .held)), simp (length-take, length-replicate) (omega (arith, c .before .before .before .before .before .before .before .before .before .before .before .before .before .before .before .before .before .before .before .before .before .pre .0 .head .held))), (simp (length-take, length-replicate) (omega (arith, c .before .before .before .before .before .before .before .before .before .before .before .before .before .before .before .before .before .before .before .before .before .pre .0 .outs .held)), simp (length-take, length-replicate) (omega (arith, c .before .before .before .before .before .before .before .before .before .before .before .before .before .before .before .before .before .before .before .before .before .pre .0 .array .held))))))
 
--- src/turn.rt:115:34
 slice-reshare-prefix-write-all : tie.Need-slice-reshare-prefix-write-all
 slice-reshare-prefix-write-all c = search needs
 
--- src/turn.rt:115:34
 slice-aggregate-write-all : tie.Need-slice-aggregate-write-all
 slice-aggregate-write-all c = simp length-take (omega (arith, c .before .before .before .before .before .before .before .before .before .before .before .before .before .before .play-columns .ensures .within, c .before .before .before .before .before .before .before .before .before .before .before .before .before .before .play-columns .kept .1 .1 .1 .1 .1 .1 .1 .1 .1 .1 .1 .1 .0))
 
--- src/turn.rt:115:5
 write-all-requires : tie.Need-write-all-requires
 write-all-requires c κs = search needs
 
--- src/turn.rt:73:1
 same-length : tie.Need-same-length
 same-length c = search needs
 
--- src/turn.rt:73:1
 same-length-2 : tie.Need-same-length-2
 same-length-2 c = search needs
 
--- src/turn.rt:73:1
 same-length-3 : tie.Need-same-length-3
 same-length-3 c = search needs
 
--- src/turn.rt:73:1
 same-length-4 : tie.Need-same-length-4
 same-length-4 c = search needs
 
--- src/turn.rt:73:1
 returns : tie.Need-returns
 returns c = search needs
 

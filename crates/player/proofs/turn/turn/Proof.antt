@@ -1,88 +1,62 @@
-use lib.ListN.{length-append}
-use Rattle.player.specs.Fits.{widthOf}
-use lib.ListN.{length-replicate, length-take}
-use Rattle.player.proofs.Room.{bytes-room, fits-less, whole-most, whole-there}
-use mathlib.Core.Path.{_≡_, refl, sym, _∙_, ap}
-use Prim.Native.Nat.{ℕ, _+_, _*_, _-_, _/_, _%_, _≤_, _<_}
+-- `turn` meets its contract. What was read is no more than was asked for, so the whole columns are no more than the block (Room). Assumes nothing.
 use native.Mathlib.Omega.{arith}
-use lib.ListN.{length, set, take, drop, length-set}
-use lib.Ieee.{Float, nan, binary32, add, mul}
+use lib.ListN.{length-append, length-replicate, length-take}
 use borrow.Author.Needs.{needs}
+use Rattle.player.specs.Fits.{widthOf}
+use Rattle.player.proofs.Room.{bytes-room, fits-less, whole-most, whole-there}
 use Rattle.player.proofs.turn.turn.Statement.{statement}
 use Rattle.player.proofs.turn.turn.Tie as tie
-use Rattle.player.proofs.turn.turn.Reads as reads
-use Rattle.player.proofs.turn.turn.Lts as lts
-use Rattle.io.proofs.read_full.Reads as read-full-reads
-use Rattle.player.proofs.turn.print_columns.Reads as print-columns-reads
-use Rattle.wna.proofs.stream.whole_columns.Reads as whole-columns-reads
 
--- src/turn.rt:136:17
 add-width : tie.Need-add-width
 add-width c = search needs
 
--- src/turn.rt:136:17
 add-width-2 : tie.Need-add-width-2
 add-width-2 c = search needs
 
--- src/turn.rt:137:21
 mul-size : tie.Need-mul-size
 mul-size c = search needs
 
--- src/turn.rt:137:16
 mul-size-2 : tie.Need-mul-size-2
 mul-size-2 c = search needs
 
--- src/turn.rt:138:33
 array-borrow-prefix-bytes : tie.Need-array-borrow-prefix-bytes
 array-borrow-prefix-bytes c = search needs
 
--- src/turn.rt:138:33
 slice-aggregate-read-full : tie.Need-slice-aggregate-read-full
 slice-aggregate-read-full c = simp (length-take, length-replicate) (omega (arith, bytes-room (c .before .before .before .before .before .before .before .before .before .args .a) (c .before .before .before .before .before .before .before .before .before .args .n) (c .before .before .before .before .before .before .before .before .before .pre .0)))
 
--- src/turn.rt:138:9
 read-full-requires : tie.Need-read-full-requires
 read-full-requires c κs = search needs
 
--- src/turn.rt:139:9
 whole-columns-requires : tie.Need-whole-columns-requires
 whole-columns-requires c κs = search needs
 
--- src/turn.rt:147:13
 array-share-prefix-bytes : tie.Need-array-share-prefix-bytes
 array-share-prefix-bytes c = simp length-append (omega (arith, c .before .before .before .before .before .read-full .ensures .0))
 
--- src/turn.rt:147:13
 slice-aggregate-print-columns : tie.Need-slice-aggregate-print-columns
 slice-aggregate-print-columns c = simp (length-take, length-append) (omega (arith, c .before .before .before .before .before .before .read-full .ensures .0))
 
--- src/turn.rt:141:9
 print-columns-requires : tie.Need-print-columns-requires
 print-columns-requires c κs = let most = whole-most (widthOf (c .before .before .before .before .before .before .before .before .before .before .before .before .before .before .before .before .before .before .args .a)) (c .before .before .before .before .before .before .before .before .before .before .before .before .before .before .before .before .before .before .args .n) (c .before .before .before .before .before .before .before .before .read-full .result) (omega (arith, c .before .before .before .before .before .before .before .before .before .before .before .before .before .before .before .before .before .before .pre .0 .input .some)) (omega (arith, c .before .before .before .before .before .before .before .before .read-full .ensures .0, simp (length-take, length-replicate) at (c .before .before .before .before .before .before .before .before .read-full .kept .1 .0), bytes-room (c .before .before .before .before .before .before .before .before .before .before .before .before .before .before .before .before .before .before .args .a) (c .before .before .before .before .before .before .before .before .before .before .before .before .before .before .before .before .before .before .args .n) (c .before .before .before .before .before .before .before .before .before .before .before .before .before .before .before .before .before .before .pre .0))) (c .before .before .before .before .before .before .whole-columns .ensures) in
     let there = whole-there (widthOf (c .before .before .before .before .before .before .before .before .before .before .before .before .before .before .before .before .before .before .args .a)) (c .before .before .before .before .before .before .before .before .read-full .result) (c .before .before .before .before .before .before .whole-columns .ensures) in
     (fits-less (c .before .before .before .before .before .before .before .before .before .before .before .before .before .before .before .before .before .before .pre .0) most, (simp (length-take, length-append) (omega (arith, there, c .before .before .before .before .before .before .before .before .read-full .ensures .0)), omega (arith, most, c .before .before .before .before .before .before .before .before .before .before .before .before .before .before .before .before .before .before .pre .1 .0), c .before .before .before .before .before .before .before .before .before .before .before .before .before .before .before .before .before .before .pre .1 .1, omega (arith, most, c .before .before .before .before .before .before .before .before .before .before .before .before .before .before .before .before .before .before .pre .1 .2)))
 
--- src/turn.rt:119:1
 same-length : tie.Need-same-length
 same-length c = search needs
 
--- src/turn.rt:119:1
 same-length-2 : tie.Need-same-length-2
 same-length-2 c = search needs
 
--- src/turn.rt:119:1
 same-length-3 : tie.Need-same-length-3
 same-length-3 c = search needs
 
--- src/turn.rt:119:1
 same-length-4 : tie.Need-same-length-4
 same-length-4 c = search needs
 
--- src/turn.rt:119:1
 returns : tie.Need-returns
 returns c = whole-most (widthOf (c .before .before .before .before .before .before .before .before .before .before .before .before .before .before .before .before .before .before .before .before .before .before .before .before .before .before .before .args .a)) (c .before .before .before .before .before .before .before .before .before .before .before .before .before .before .before .before .before .before .before .before .before .before .before .before .before .before .before .args .n) (c .before .before .before .before .before .before .before .before .before .before .before .before .before .before .before .before .before .read-full .result) (omega (arith, c .before .before .before .before .before .before .before .before .before .before .before .before .before .before .before .before .before .before .before .before .before .before .before .before .before .before .before .pre .0 .input .some)) (omega (arith, c .before .before .before .before .before .before .before .before .before .before .before .before .before .before .before .before .before .read-full .ensures .0, simp (length-take, length-replicate) at (c .before .before .before .before .before .before .before .before .before .before .before .before .before .before .before .before .before .read-full .kept .1 .0), bytes-room (c .before .before .before .before .before .before .before .before .before .before .before .before .before .before .before .before .before .before .before .before .before .before .before .before .before .before .before .args .a) (c .before .before .before .before .before .before .before .before .before .before .before .before .before .before .before .before .before .before .before .before .before .before .before .before .before .before .before .args .n) (c .before .before .before .before .before .before .before .before .before .before .before .before .before .before .before .before .before .before .before .before .before .before .before .before .before .before .before .pre .0))) (c .before .before .before .before .before .before .before .before .before .before .before .before .before .before .before .whole-columns .ensures)
 
--- src/turn.rt:119:1
 returns-2 : tie.Need-returns-2
 returns-2 c = whole-most (widthOf (c .before .before .before .before .before .before .before .before .before .before .before .before .before .args .a)) (c .before .before .before .before .before .before .before .before .before .before .before .before .before .args .n) (c .before .before .before .read-full .result) (omega (arith, c .before .before .before .before .before .before .before .before .before .before .before .before .before .pre .0 .input .some)) (omega (arith, c .before .before .before .read-full .ensures .0, simp (length-take, length-replicate) at (c .before .before .before .read-full .kept .1 .0), bytes-room (c .before .before .before .before .before .before .before .before .before .before .before .before .before .args .a) (c .before .before .before .before .before .before .before .before .before .before .before .before .before .args .n) (c .before .before .before .before .before .before .before .before .before .before .before .before .before .pre .0))) (c .before .whole-columns .ensures)
 
