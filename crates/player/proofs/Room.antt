@@ -5,8 +5,9 @@ use native.Mathlib.Nat.{mul-div-le, mul-le-mul-left}
 use native.Mathlib.Omega.{arith}
 use Rattle.description.specs.declared.records.ArrayRecord.{ArrayRecord}
 use Rattle.lists.proofs.Nums.{div-lt, row-next}
+use Rattle.wna.specs.File.{widthOf}
 use Rattle.wna.specs.Stream.{nextBlock, wholeIn}
-use Rattle.player.specs.Fits.{Fits, Wide, widthOf}
+use Rattle.player.specs.Fits.{Fits, Wide}
 
 -- a block's text
 pub text-room : (a : ArrayRecord) (n l : ℕ) → Fits a n → n ≤ 1024 → 29696 ≤ l → n * (9 * (a .«head_size» + a .channels) + 11) ≤ l

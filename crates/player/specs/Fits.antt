@@ -1,10 +1,6 @@
 -- What fits into the program's buffers: a block of n columns of an array, planar, as bytes and as text.
-use Prim.Native.Nat.{ℕ, _+_, _*_, _≤_}
+use Prim.Native.Nat.{ℕ, _*_, _≤_}
 use Rattle.description.specs.declared.records.ArrayRecord.{ArrayRecord}
-
--- the numbers of a column: input, condition, incoming head
-abbrev pub widthOf : ArrayRecord → ℕ
-widthOf a = a .input + a .condition + a .«head_in»
 
 -- each width is 1..32, and a planar buffer of n columns has room
 pub record Wide (w n : ℕ) : Type 0 where

@@ -2,7 +2,7 @@
 use native.Mathlib.Omega.{arith}
 use lib.ListN.{length-append, length-replicate, length-take}
 use borrow.Author.Needs.{needs}
-use Rattle.player.specs.Fits.{widthOf}
+use Rattle.wna.specs.File.{widthOf}
 use Rattle.player.proofs.Room.{bytes-room, fits-less, whole-most, whole-there}
 use Rattle.player.proofs.turn.turn.Statement.{statement}
 use Rattle.player.proofs.turn.turn.Tie as tie
