@@ -1,2 +1,5 @@
+mod Hearing
+mod InRing
+mod Playing
 mod Room
 mod Sized
