@@ -101,21 +101,43 @@ module _ (a : ArrayRecord) (r : LayerRecord) (weights : ℕ → List Float) (x c
   unfolding AllIn slotsOf column.after conv′ mixin′ layer1x1′ head1x1′
   after-in s h =
       let f : (j : ℕ) → j < 12 → InRing (getD (slotsOf a r) j Absent) (memoryAt s j) = λ j l. in-at (slotsOf a r) s h j l in
-      let g : (i : ℕ) → InRing (siteOf a r i) (memoryAt s (4 + i)) → InRing (siteOf a r i) (site′ a r weights (memoryAt s) x condition i) = site-in (memoryAt s) in
-      (
+      let g : (i : ℕ) → InRing (siteOf a r i) (memoryAt s (4 + i)) → InRing (siteOf a r i) (site′ a r weights (memoryAt s) x condition i) = site-in (memoryAt s) in (
         pushed-in _ _ _ (f 0 (omega arith)),
-        (pushed-in _ _ _ (f 1 (omega arith)),
-        (pushed-in _ _ _ (f 2 (omega arith)),
-        (pushed-in _ _ _ (f 3 (omega arith)),
-        (g 0 (f 4 (omega arith)),
-        (g 1 (f 5 (omega arith)),
-        (g 2 (f 6 (omega arith)),
-        (g 3 (f 7 (omega arith)),
-        (g 4 (f 8 (omega arith)),
-        (g 5 (f 9 (omega arith)),
-        (g 6 (f 10 (omega arith)),
-        (g 7 (f 11 (omega arith)),
-        tt))))))))))))
+        (
+          pushed-in _ _ _ (f 1 (omega arith)),
+          (
+            pushed-in _ _ _ (f 2 (omega arith)),
+            (
+              pushed-in _ _ _ (f 3 (omega arith)),
+              (
+                g 0 (f 4 (omega arith)),
+                (
+                  g 1 (f 5 (omega arith)),
+                  (
+                    g 2 (f 6 (omega arith)),
+                    (
+                      g 3 (f 7 (omega arith)),
+                      (
+                        g 4 (f 8 (omega arith)),
+                        (
+                          g 5 (f 9 (omega arith)),
+                          (
+                            g 6 (f 10 (omega arith)),
+                            (
+                              g 7 (f 11 (omega arith)),
+                              tt,
+                            ),
+                          ),
+                        ),
+                      ),
+                    ),
+                  ),
+                ),
+              ),
+            ),
+          ),
+        ),
+      )
 
 one-in : (p : Part) (s : List Memory) (x : ℕ → Float) → AllIn (p ∷ []) s → AllIn (p ∷ []) (pushed p (memoryAt s 0) x ∷ [])
 unfolding AllIn

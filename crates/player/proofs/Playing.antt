@@ -81,7 +81,7 @@ module _ (b : Lent) (n : ℕ) (a : ArrayRecord) (first : ℕ) (text : List ℕ)
 
   pub not-refused : Planar → blockRefusal b n ≡ 0
   not-refused p =
-      let s = ready .sound in
+      let s = ready .suits in
       admitted-only b n (record {
         described = s .sound;
         columns = s .most;

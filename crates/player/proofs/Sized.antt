@@ -1,9 +1,10 @@
 -- What a description that was not refused fits into. Assumes nothing.
-use mathlib.Core.Path.{_≡_, sym, ap, subst}
+use mathlib.Core.Path.{_≡_, sym, _∙_, ap, subst}
 use mathlib.Core.List.{List}
 use Prim.Native.Nat.{ℕ, _*_, _≤_}
 use native.Mathlib.Nat.{mul-le-mul-right}
 use native.Mathlib.Omega.{arith}
+use lib.Ieee.{Float}
 use lib.ListN.{length}
 use Rattle.description.specs.Numbers.{headLength}
 use Rattle.description.specs.Ranges.{Between}
@@ -14,13 +15,15 @@ use Rattle.description.specs.declared.records.ArrayRecord.{ArrayRecord}
 use Rattle.description.proofs.Sound.{array-in-range, array-width-le, length-is, positions-most}
 use Rattle.description.specs.declared.answers.Checked.{Checked}
 use Rattle.description.specs.declared.answers.Checked.the-variants.{Sound}
+use Rattle.reset.specs.Resets.{Resets}
 use Rattle.wna.specs.Header.{HeaderAnswers, LowHeader}
 use Rattle.wna.specs.Opening.{Described, Opened}
 use Rattle.wna.specs.declared.header.Header.{Header}
 use Rattle.wna.specs.declared.header.HeaderAnswer.{HeaderAnswer}
 use Rattle.wna.specs.declared.header.HeaderAnswer.the-variants.{Whole}
 use Rattle.wna.proofs.Facts.{header-low, opened-is}
-use Rattle.player.specs.Fits.{Fits, Wide}
+use Rattle.player.specs.Fits.{Fits, Ready, Suits, Wide}
+use Rattle.player.proofs.Hearing.{reset-heard, reset-passes}
 
 module _ (d : List ℕ) (s : Sizes) (block : ℕ) (o : Opened d s block) where
   widest-is : s .widest ≡ widestOf d
@@ -42,8 +45,32 @@ module _ (d : List ℕ) (s : Sizes) (block : ℕ) (o : Opened d s block) where
         array = wide (r .channels) (le 2);
       }
 
-  pub fits-array : {a : ArrayRecord} → a ≡ arrayOf d → Fits a block
+  fits-array : {a : ArrayRecord} → a ≡ arrayOf d → Fits a block
   fits-array e = subst (λ (a : ArrayRecord). Fits a block) (sym e) fits-of
+
+  suits-of : {a : ArrayRecord} → a ≡ arrayOf d → block ≤ 1024 → Suits d a block
+  suits-of e most = record {
+    fits = fits-array e;
+    array-is = e;
+    sound = o .sound;
+    planar = omega (arith, o .planar, ap (λ (x : ℕ). x * block) widest-is);
+    most = most;
+  }
+
+  -- after a reset everything is ready for the first block
+  pub ready-first : {a : ArrayRecord} → a ≡ arrayOf d → block ≤ 1024
+      → {w histories : List Float} {positions : List ℕ} {r : ℕ} {histories′ : List Float} {positions′ : List ℕ} {scratch : List Float} {text : List ℕ}
+      → length w ≡ s .weights → length histories ≡ s .histories → length positions ≡ s .positions → Resets d histories positions r histories′ positions′
+      → 16384 ≤ length scratch → 29696 ≤ length text → Ready d a block 0 w histories′ positions′ scratch text
+  ready-first e most {w} ws hs ps reset rs rt = record {
+    suits = suits-of e most;
+    weights-are = ws ∙ ap (λ (s : Sizes). s .weights) (o .sizes);
+    heard = reset-heard reset w
+        (reset-passes reset (o .sound) (hs ∙ ap (λ (s : Sizes). s .histories) (o .sizes)) (ps ∙ ap (λ (s : Sizes). s .positions) (o .sizes)));
+    last = omega arith;
+    scratch-room = rs;
+    text-room = rt;
+  }
 
   pub parts-most : s .positions ≤ 290
   unfolding sizesOf

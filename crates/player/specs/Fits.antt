@@ -25,7 +25,7 @@ pub record Fits (a : ArrayRecord) (n : ℕ) : Type 0 where
   pub array : Wide (a .channels) n
 
 -- the description and its array record, for blocks of at most n columns
-pub record Sound (d : List ℕ) (a : ArrayRecord) (n : ℕ) : Type 0 where
+pub record Suits (d : List ℕ) (a : ArrayRecord) (n : ℕ) : Type 0 where
   pub fits : Fits a n
   pub array-is : a ≡ arrayOf d
   pub sound : refusalOf d ≡ 0
@@ -34,7 +34,7 @@ pub record Sound (d : List ℕ) (a : ArrayRecord) (n : ℕ) : Type 0 where
 
 -- what a block of n columns is lent, the first of which has this index
 pub record Ready (d : List ℕ) (a : ArrayRecord) (n first : ℕ) (weights histories : List Float) (positions : List ℕ) (scratch : List Float) (text : List ℕ) : Type 0 where
-  pub sound : Sound d a n
+  pub suits : Suits d a n
   pub weights-are : length weights ≡ sizesOf d .weights
   pub heard : Heard d weights first histories positions
   pub last : first + n ≤ 4294967296

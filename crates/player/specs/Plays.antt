@@ -1,7 +1,7 @@
 -- What the program does with the bytes of whole columns: the recurrence's columns, as lines of text. Document 01, 'The program'.
 use mathlib.Core.Path.{_≡_}
 use mathlib.Core.List.{List, _++_}
-use Prim.Native.Nat.{ℕ, _+_}
+use Prim.Native.Nat.{ℕ, _+_, _≤_}
 use lib.Ieee.{Float}
 use lib.ListN.{getD, length}
 use Rattle.lists.specs.Tab.{tab}
@@ -55,3 +55,10 @@ module _ (d : List ℕ) (w : List Float) where
     pub counted : length columns ≡ count
     pub histories-are : histories ≡ historiesFrom d (statesPast (silence d) columns)
     pub positions-are : positions ≡ positionsFrom d (statesPast (silence d) columns)
+
+  -- the stream has ended with this number: so many columns are played, and all that were counted where it is 0
+  pub record Ended (columns number : ℕ) (histories : List Float) (positions : List ℕ) : Type 0 where
+    pub played : ℕ
+    pub heard : Heard played histories positions
+    pub most : played ≤ columns
+    pub all : number ≡ 0 → played ≡ columns

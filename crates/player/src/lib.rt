@@ -3,6 +3,8 @@
 pub mod stream;
 pub mod turn;
 
+ghost use mathlib.Core.Path.{_≡_};
+ghost use lib.ListN.{length};
 ghost use Rattle.wna.specs.Header.{LowHeader};
 ghost use Rattle.wna.specs.Opening.{Opened};
 use crate::stream::last;
@@ -16,7 +18,7 @@ use wna::header::read_header;
 use wna::opening::take_description;
 use wna::opening::take_weights;
 
-// From a reset: all columns, and the last line.
+// From a reset: all columns, and the last line. The reset's own answer is 0: the buffers have the description's sizes.
 fn from_reset(
     fd: i32,
     h: Header,
@@ -28,6 +30,8 @@ fn from_reset(
 )
     requires { ⌜ LowHeader h ⌝ }
     requires { ⌜ Opened (now d) s (h .block) ⌝ }
+    requires { ⌜ length (now weights) ≡ s .weights ⌝ }
+    requires { ⌜ (length (now histories) ≡ s .histories) × (length (now positions) ≡ s .positions) ⌝ }
 {
     let mut scratch = [0.0f32; 16384];
     let mut text = [0u8; 29696];
@@ -53,6 +57,7 @@ fn from_reset(
 fn with_weights(fd: i32, h: Header, s: Sizes, d: &[u32], weights: &[f32])
     requires { ⌜ LowHeader h ⌝ }
     requires { ⌜ Opened (now d) s (h .block) ⌝ }
+    requires { ⌜ length (now weights) ≡ s .weights ⌝ }
 {
     let mut histories = [0.0f32; 16384];
     let mut positions = [0u32; 290];
@@ -73,6 +78,7 @@ fn with_weights(fd: i32, h: Header, s: Sizes, d: &[u32], weights: &[f32])
 fn weighed(fd: i32, h: Header, s: Sizes, d: &[u32], weights: &mut [f32], bytes: &[u8])
     requires { ⌜ LowHeader h ⌝ }
     requires { ⌜ Opened (now d) s (h .block) ⌝ }
+    requires { ⌜ length (now weights) ≡ s .weights ⌝ }
 {
     let number = take_weights(weights, bytes);
     if number != 0 {

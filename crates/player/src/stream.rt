@@ -1,7 +1,7 @@
 // The columns, block by block, and the last line. Document 01, 'The program'.
 ghost use Prim.Native.Nat.{_≤_, _<_};
-ghost use lib.ListN.{length};
-ghost use Rattle.player.specs.Fits.{Fits};
+ghost use Rattle.player.specs.Fits.{Ready};
+ghost use Rattle.player.specs.Plays.{Ended};
 use crate::turn::turn;
 use description::records::ArrayRecord;
 use libc::STDOUT_FILENO;
@@ -40,8 +40,9 @@ pub fn stream(
     scratch: &mut [f32],
     text: &mut [u8],
 ) -> u32
-    requires { ⌜ Fits a block ⌝ }
-    requires { ⌜ (1 ≤ block) × (block ≤ 1024) × (columns < 4294967296) × (29696 ≤ length (now text)) ⌝ }
+    requires { ⌜ Ready (now d) a block 0 (now weights) (now histories) (now positions) (now scratch) (now text) ⌝ }
+    requires { ⌜ (1 ≤ block) × (columns < 4294967296) ⌝ }
+    ensures { λ r. ⌜ Ended (now (d .entry)) (now (weights .entry)) columns r (now (histories .exit)) (now (positions .exit)) ⌝ }
 {
     let mut left = columns;
     while left > 0 {

@@ -2,11 +2,10 @@
 ghost use mathlib.Core.Path.{_≡_};
 ghost use Prim.Native.Nat.{_+_, _*_, _≤_, _<_};
 ghost use lib.ListN.{length};
-ghost use Rattle.lines.specs.Lines.{Printed};
-ghost use Rattle.lines.specs.Text.{linesOf, outputsOf};
 ghost use Rattle.wna.specs.File.{widthOf};
 ghost use Rattle.wna.specs.Columns.{spreadOf};
-ghost use Rattle.player.specs.Fits.{Fits};
+ghost use Rattle.player.specs.Fits.{Fits, Ready};
+ghost use Rattle.player.specs.Plays.{Heard, Plays};
 use description::records::ArrayRecord;
 use libc::STDOUT_FILENO;
 use lines::put_lines;
@@ -39,7 +38,8 @@ fn take_columns(
     spread(head_in, bytes, width, from, heads, n);
 }
 
-// The columns of the bytes, played and written as text; answers how many bytes that is.
+// The columns of the bytes, played and written as text; answers how many bytes that is. The block's own answer is 0: what it is lent fits, and the
+// positions stay in their rings.
 fn play_columns(
     d: &[u32],
     a: ArrayRecord,
@@ -57,11 +57,12 @@ fn play_columns(
     first: usize,
     n: usize,
 ) -> usize
-    requires { ⌜ Fits a n ⌝ }
-    requires { ⌜ (4 * (n * widthOf a) ≤ length (now bytes)) × (first + n ≤ 4294967296) × (29696 ≤ length (now text)) × (n ≤ 1024) ⌝ }
+    requires { ⌜ Ready (now d) a n first (now weights) (now histories) (now positions) (now scratch) (now text) ⌝ }
+    requires { ⌜ 4 * (n * widthOf a) ≤ length (now bytes) ⌝ }
     requires { ⌜ (length (now input) ≡ a .input * n) × (length (now condition) ≡ a .condition * n) × (length (now «head_in») ≡ a .«head_in» * n) ⌝ }
     requires { ⌜ (length (now «head_out») ≡ a .«head_size» * n) × (length (now «array_out») ≡ a .channels * n) ⌝ }
-    ensures { λ r. ⌜ Printed (now (text .entry)) 0 (linesOf first (outputsOf n (a .«head_size») (now («head_out» .exit)) (a .channels) (now («array_out» .exit))) n) r (now (text .exit)) ⌝ }
+    ensures { λ r. ⌜ Plays (now (d .entry)) (now (weights .entry)) (now (bytes .entry)) n first (now (histories .entry)) (now (positions .entry)) (now (text .entry)) r
+        (now (histories .exit)) (now (positions .exit)) (now (text .exit)) ⌝ }
 {
     take_columns(bytes, a, n, input, condition, head_in);
     calls::block(
@@ -93,8 +94,9 @@ fn print_columns(
     first: usize,
     n: usize,
 )
-    requires { ⌜ Fits a n ⌝ }
-    requires { ⌜ (4 * (n * widthOf a) ≤ length (now bytes)) × (first + n ≤ 4294967296) × (29696 ≤ length (now text)) × (n ≤ 1024) ⌝ }
+    requires { ⌜ Ready (now d) a n first (now weights) (now histories) (now positions) (now scratch) (now text) ⌝ }
+    requires { ⌜ 4 * (n * widthOf a) ≤ length (now bytes) ⌝ }
+    ensures { λ _. ⌜ Heard (now (d .entry)) (now (weights .entry)) (first + n) (now (histories .exit)) (now (positions .exit)) ⌝ }
 {
     let mut input = [0.0f32; 1024];
     let mut condition = [0.0f32; 1024];
@@ -139,9 +141,8 @@ pub fn turn(
     first: usize,
     n: usize,
 ) -> usize
-    requires { ⌜ Fits a n ⌝ }
-    requires { ⌜ (first + n ≤ 4294967296) × (29696 ≤ length (now text)) × (n ≤ 1024) ⌝ }
-    ensures { λ r. ⌜ r ≤ n ⌝ }
+    requires { ⌜ Ready (now d) a n first (now weights) (now histories) (now positions) (now scratch) (now text) ⌝ }
+    ensures { λ r. ⌜ (r ≤ n) × Heard (now (d .entry)) (now (weights .entry)) (first + r) (now (histories .exit)) (now (positions .exit)) ⌝ }
 {
     let mut bytes = [0u8; 12288];
     let width = a.input + a.condition + a.head_in;

@@ -1,7 +1,7 @@
--- `from_reset` meets its contract. The description fits the buffers (Sized). Assumes nothing.
+-- `from_reset` meets its contract. After the reset the first block can be played (Sized). Assumes nothing.
 use native.Mathlib.Omega.{arith}
 use borrow.Author.Needs.{needs}
-use Rattle.player.proofs.Sized.{fits-array, long}
+use Rattle.player.proofs.Sized.{long, ready-first}
 use Rattle.player.proofs.from_reset.Statement.{statement}
 use Rattle.player.proofs.from_reset.Tie as tie
 
@@ -12,7 +12,7 @@ reset-requires : tie.Need-reset-requires
 reset-requires c κs = search needs
 
 read-array-requires : tie.Need-read-array-requires
-read-array-requires c κs = long (c .before .before .before .before .before .before .before .before .before .before .before .before .args .d .now) (c .before .before .before .before .before .before .before .before .before .before .before .before .args .s) (c .before .before .before .before .before .before .before .before .before .before .before .before .args .h .block) (c .before .before .before .before .before .before .before .before .before .before .before .before .pre .1)
+read-array-requires c κs = long (c .before .before .before .before .before .before .before .before .before .before .before .before .args .d .now) (c .before .before .before .before .before .before .before .before .before .before .before .before .args .s) (c .before .before .before .before .before .before .before .before .before .before .before .before .args .h .block) (c .before .before .before .before .before .before .before .before .before .before .before .before .pre .1 .0)
 
 slice-aggregate-stream : tie.Need-slice-aggregate-stream
 slice-aggregate-stream c = search needs
@@ -21,7 +21,7 @@ slice-aggregate-stream-2 : tie.Need-slice-aggregate-stream-2
 slice-aggregate-stream-2 c = search needs
 
 stream-requires : tie.Need-stream-requires
-stream-requires c κs = (fits-array (c .before .before .before .before .before .before .before .before .before .before .before .before .before .before .before .before .before .args .d .now) (c .before .before .before .before .before .before .before .before .before .before .before .before .before .before .before .before .before .args .s) (c .before .before .before .before .before .before .before .before .before .before .before .before .before .before .before .before .before .args .h .block) (c .before .before .before .before .before .before .before .before .before .before .before .before .before .before .before .before .before .pre .1) (c .before .before .before .before .read-array .ensures), (c .before .before .before .before .before .before .before .before .before .before .before .before .before .before .before .before .before .pre .0 .some, c .before .before .before .before .before .before .before .before .before .before .before .before .before .before .before .before .before .pre .0 .largest, omega (arith, c .before .before .before .before .before .before .before .before .before .before .before .before .struct-known .given), omega arith))
+stream-requires c κs = (ready-first (c .before .before .before .before .before .before .before .before .before .before .before .before .before .before .before .before .before .args .d .now) (c .before .before .before .before .before .before .before .before .before .before .before .before .before .before .before .before .before .args .s) (c .before .before .before .before .before .before .before .before .before .before .before .before .before .before .before .before .before .args .h .block) (c .before .before .before .before .before .before .before .before .before .before .before .before .before .before .before .before .before .pre .1 .0) (c .before .before .before .before .read-array .ensures) (c .before .before .before .before .before .before .before .before .before .before .before .before .before .before .before .before .before .pre .0 .largest) (c .before .before .before .before .before .before .before .before .before .before .before .before .before .before .before .before .before .pre .1 .1 .0) (c .before .before .before .before .before .before .before .before .before .before .before .before .before .before .before .before .before .pre .1 .1 .1 .0) (c .before .before .before .before .before .before .before .before .before .before .before .before .before .before .before .before .before .pre .1 .1 .1 .1) (c .before .before .before .before .before .before .before .before .before .reset .ensures) (omega arith) (omega arith), (c .before .before .before .before .before .before .before .before .before .before .before .before .before .before .before .before .before .pre .0 .some, omega (arith, c .before .before .before .before .before .before .before .before .before .before .before .before .struct-known .given)))
 
 last-requires : tie.Need-last-requires
 last-requires c κs = search needs

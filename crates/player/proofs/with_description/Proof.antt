@@ -30,7 +30,7 @@ slice-aggregate-weighed-2 : tie.Need-slice-aggregate-weighed-2
 slice-aggregate-weighed-2 c = simp (length-take, length-append) (omega (arith, c .before .before .before .read-full .ensures .0))
 
 weighed-requires : tie.Need-weighed-requires
-weighed-requires c κs = search needs
+weighed-requires c κs = (c .before .before .before .before .before .before .pre .0, (c .before .before .before .before .before .before .pre .1, simp (length-take, length-replicate) (omega (arith, c .before .before .before .before .before .before .pre .1 .weights))))
 
 returns : tie.Need-returns
 returns c = search needs

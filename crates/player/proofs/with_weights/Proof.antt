@@ -10,16 +10,16 @@ array-borrow-prefix-histories : tie.Need-array-borrow-prefix-histories
 array-borrow-prefix-histories c = search needs
 
 slice-aggregate-from-reset : tie.Need-slice-aggregate-from-reset
-slice-aggregate-from-reset c = simp (length-take, length-replicate) (omega (arith, c .before .before .before .pre .1 .histories))
+slice-aggregate-from-reset c = simp (length-take, length-replicate) (omega (arith, c .before .before .before .pre .1 .0 .histories))
 
 array-borrow-prefix-positions : tie.Need-array-borrow-prefix-positions
-array-borrow-prefix-positions c = omega (arith, parts-most (c .before .before .before .args .d .now) (c .before .before .before .args .s) (c .before .before .before .args .h .block) (c .before .before .before .pre .1))
+array-borrow-prefix-positions c = omega (arith, parts-most (c .before .before .before .args .d .now) (c .before .before .before .args .s) (c .before .before .before .args .h .block) (c .before .before .before .pre .1 .0))
 
 slice-aggregate-from-reset-2 : tie.Need-slice-aggregate-from-reset-2
-slice-aggregate-from-reset-2 c = simp (length-take, length-replicate) (omega (arith, parts-most (c .before .before .before .before .args .d .now) (c .before .before .before .before .args .s) (c .before .before .before .before .args .h .block) (c .before .before .before .before .pre .1)))
+slice-aggregate-from-reset-2 c = simp (length-take, length-replicate) (omega (arith, parts-most (c .before .before .before .before .args .d .now) (c .before .before .before .before .args .s) (c .before .before .before .before .args .h .block) (c .before .before .before .before .pre .1 .0)))
 
 from-reset-requires : tie.Need-from-reset-requires
-from-reset-requires c κs = search needs
+from-reset-requires c κs = (c .before .before .before .before .pre .0, (c .before .before .before .before .pre .1 .0, (c .before .before .before .before .pre .1 .1, (simp (length-take, length-replicate) (omega (arith, c .before .before .before .before .pre .1 .0 .histories)), simp (length-take, length-replicate) (omega (arith, parts-most (c .before .before .before .before .args .d .now) (c .before .before .before .before .args .s) (c .before .before .before .before .args .h .block) (c .before .before .before .before .pre .1 .0)))))))
 
 returns : tie.Need-returns
 returns c = search needs

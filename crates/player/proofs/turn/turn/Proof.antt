@@ -3,7 +3,7 @@ use native.Mathlib.Omega.{arith}
 use lib.ListN.{length-append, length-replicate, length-take}
 use borrow.Author.Needs.{needs}
 use Rattle.wna.specs.File.{widthOf}
-use Rattle.player.proofs.Room.{bytes-room, fits-less, whole-most, whole-there}
+use Rattle.player.proofs.Room.{bytes-room, heard-at, ready-on, whole-most, whole-there}
 use Rattle.player.proofs.turn.turn.Statement.{statement}
 use Rattle.player.proofs.turn.turn.Tie as tie
 
@@ -23,7 +23,7 @@ array-borrow-prefix-bytes : tie.Need-array-borrow-prefix-bytes
 array-borrow-prefix-bytes c = search needs
 
 slice-aggregate-read-full : tie.Need-slice-aggregate-read-full
-slice-aggregate-read-full c = simp (length-take, length-replicate) (omega (arith, bytes-room (c .before .before .before .before .before .before .before .before .before .args .a) (c .before .before .before .before .before .before .before .before .before .args .n) (c .before .before .before .before .before .before .before .before .before .pre .0)))
+slice-aggregate-read-full c = simp (length-take, length-replicate) (omega (arith, bytes-room (c .before .before .before .before .before .before .before .before .before .args .a) (c .before .before .before .before .before .before .before .before .before .args .n) (c .before .before .before .before .before .before .before .before .before .pre .suits .fits)))
 
 read-full-requires : tie.Need-read-full-requires
 read-full-requires c κs = search needs
@@ -38,9 +38,9 @@ slice-aggregate-print-columns : tie.Need-slice-aggregate-print-columns
 slice-aggregate-print-columns c = simp (length-take, length-append) (omega (arith, c .before .before .before .before .before .before .read-full .ensures .0))
 
 print-columns-requires : tie.Need-print-columns-requires
-print-columns-requires c κs = let most = whole-most (widthOf (c .before .before .before .before .before .before .before .before .before .before .before .before .before .before .before .before .before .before .args .a)) (c .before .before .before .before .before .before .before .before .before .before .before .before .before .before .before .before .before .before .args .n) (c .before .before .before .before .before .before .before .before .read-full .result) (omega (arith, c .before .before .before .before .before .before .before .before .before .before .before .before .before .before .before .before .before .before .pre .0 .input .some)) (omega (arith, c .before .before .before .before .before .before .before .before .read-full .ensures .0, simp (length-take, length-replicate) at (c .before .before .before .before .before .before .before .before .read-full .kept .1 .0), bytes-room (c .before .before .before .before .before .before .before .before .before .before .before .before .before .before .before .before .before .before .args .a) (c .before .before .before .before .before .before .before .before .before .before .before .before .before .before .before .before .before .before .args .n) (c .before .before .before .before .before .before .before .before .before .before .before .before .before .before .before .before .before .before .pre .0))) (c .before .before .before .before .before .before .whole-columns .ensures) in
+print-columns-requires c κs = let most = whole-most (widthOf (c .before .before .before .before .before .before .before .before .before .before .before .before .before .before .before .before .before .before .args .a)) (c .before .before .before .before .before .before .before .before .before .before .before .before .before .before .before .before .before .before .args .n) (c .before .before .before .before .before .before .before .before .read-full .result) (omega (arith, c .before .before .before .before .before .before .before .before .before .before .before .before .before .before .before .before .before .before .pre .suits .fits .input .some)) (omega (arith, c .before .before .before .before .before .before .before .before .read-full .ensures .0, simp (length-take, length-replicate) at (c .before .before .before .before .before .before .before .before .read-full .kept .1 .0), bytes-room (c .before .before .before .before .before .before .before .before .before .before .before .before .before .before .before .before .before .before .args .a) (c .before .before .before .before .before .before .before .before .before .before .before .before .before .before .before .before .before .before .args .n) (c .before .before .before .before .before .before .before .before .before .before .before .before .before .before .before .before .before .before .pre .suits .fits))) (c .before .before .before .before .before .before .whole-columns .ensures) in
     let there = whole-there (widthOf (c .before .before .before .before .before .before .before .before .before .before .before .before .before .before .before .before .before .before .args .a)) (c .before .before .before .before .before .before .before .before .read-full .result) (c .before .before .before .before .before .before .whole-columns .ensures) in
-    (fits-less (c .before .before .before .before .before .before .before .before .before .before .before .before .before .before .before .before .before .before .pre .0) most, (simp (length-take, length-append) (omega (arith, there, c .before .before .before .before .before .before .before .before .read-full .ensures .0)), omega (arith, most, c .before .before .before .before .before .before .before .before .before .before .before .before .before .before .before .before .before .before .pre .1 .0), c .before .before .before .before .before .before .before .before .before .before .before .before .before .before .before .before .before .before .pre .1 .1, omega (arith, most, c .before .before .before .before .before .before .before .before .before .before .before .before .before .before .before .before .before .before .pre .1 .2)))
+    (ready-on (c .before .before .before .before .before .before .before .before .before .before .before .before .before .before .before .before .before .before .pre) most (c .before .before .before .before .before .before .before .before .before .before .before .before .before .before .before .before .before .before .pre .heard) (omega (arith, most, c .before .before .before .before .before .before .before .before .before .before .before .before .before .before .before .before .before .before .pre .last)) (c .before .before .before .before .before .before .before .before .before .before .before .before .before .before .before .before .before .before .pre .scratch-room) (c .before .before .before .before .before .before .before .before .before .before .before .before .before .before .before .before .before .before .pre .text-room), simp (length-take, length-append) (omega (arith, there, c .before .before .before .before .before .before .before .before .read-full .ensures .0)))
 
 same-length : tie.Need-same-length
 same-length c = search needs
@@ -55,10 +55,10 @@ same-length-4 : tie.Need-same-length-4
 same-length-4 c = search needs
 
 returns : tie.Need-returns
-returns c = whole-most (widthOf (c .before .before .before .before .before .before .before .before .before .before .before .before .before .before .before .before .before .before .before .before .before .before .before .before .before .before .before .args .a)) (c .before .before .before .before .before .before .before .before .before .before .before .before .before .before .before .before .before .before .before .before .before .before .before .before .before .before .before .args .n) (c .before .before .before .before .before .before .before .before .before .before .before .before .before .before .before .before .before .read-full .result) (omega (arith, c .before .before .before .before .before .before .before .before .before .before .before .before .before .before .before .before .before .before .before .before .before .before .before .before .before .before .before .pre .0 .input .some)) (omega (arith, c .before .before .before .before .before .before .before .before .before .before .before .before .before .before .before .before .before .read-full .ensures .0, simp (length-take, length-replicate) at (c .before .before .before .before .before .before .before .before .before .before .before .before .before .before .before .before .before .read-full .kept .1 .0), bytes-room (c .before .before .before .before .before .before .before .before .before .before .before .before .before .before .before .before .before .before .before .before .before .before .before .before .before .before .before .args .a) (c .before .before .before .before .before .before .before .before .before .before .before .before .before .before .before .before .before .before .before .before .before .before .before .before .before .before .before .args .n) (c .before .before .before .before .before .before .before .before .before .before .before .before .before .before .before .before .before .before .before .before .before .before .before .before .before .before .before .pre .0))) (c .before .before .before .before .before .before .before .before .before .before .before .before .before .before .before .whole-columns .ensures)
+returns c = (whole-most (widthOf (c .before .before .before .before .before .before .before .before .before .before .before .before .before .before .before .before .before .before .before .before .before .before .before .before .before .before .before .args .a)) (c .before .before .before .before .before .before .before .before .before .before .before .before .before .before .before .before .before .before .before .before .before .before .before .before .before .before .before .args .n) (c .before .before .before .before .before .before .before .before .before .before .before .before .before .before .before .before .before .read-full .result) (omega (arith, c .before .before .before .before .before .before .before .before .before .before .before .before .before .before .before .before .before .before .before .before .before .before .before .before .before .before .before .pre .suits .fits .input .some)) (omega (arith, c .before .before .before .before .before .before .before .before .before .before .before .before .before .before .before .before .before .read-full .ensures .0, simp (length-take, length-replicate) at (c .before .before .before .before .before .before .before .before .before .before .before .before .before .before .before .before .before .read-full .kept .1 .0), bytes-room (c .before .before .before .before .before .before .before .before .before .before .before .before .before .before .before .before .before .before .before .before .before .before .before .before .before .before .before .args .a) (c .before .before .before .before .before .before .before .before .before .before .before .before .before .before .before .before .before .before .before .before .before .before .before .before .before .before .before .args .n) (c .before .before .before .before .before .before .before .before .before .before .before .before .before .before .before .before .before .before .before .before .before .before .before .before .before .before .before .pre .suits .fits))) (c .before .before .before .before .before .before .before .before .before .before .before .before .before .before .before .whole-columns .ensures), c .before .before .before .before .before .before .before .before .print-columns .ensures)
 
 returns-2 : tie.Need-returns-2
-returns-2 c = whole-most (widthOf (c .before .before .before .before .before .before .before .before .before .before .before .before .before .args .a)) (c .before .before .before .before .before .before .before .before .before .before .before .before .before .args .n) (c .before .before .before .read-full .result) (omega (arith, c .before .before .before .before .before .before .before .before .before .before .before .before .before .pre .0 .input .some)) (omega (arith, c .before .before .before .read-full .ensures .0, simp (length-take, length-replicate) at (c .before .before .before .read-full .kept .1 .0), bytes-room (c .before .before .before .before .before .before .before .before .before .before .before .before .before .args .a) (c .before .before .before .before .before .before .before .before .before .before .before .before .before .args .n) (c .before .before .before .before .before .before .before .before .before .before .before .before .before .pre .0))) (c .before .whole-columns .ensures)
+returns-2 c = (whole-most (widthOf (c .before .before .before .before .before .before .before .before .before .before .before .before .before .args .a)) (c .before .before .before .before .before .before .before .before .before .before .before .before .before .args .n) (c .before .before .before .read-full .result) (omega (arith, c .before .before .before .before .before .before .before .before .before .before .before .before .before .pre .suits .fits .input .some)) (omega (arith, c .before .before .before .read-full .ensures .0, simp (length-take, length-replicate) at (c .before .before .before .read-full .kept .1 .0), bytes-room (c .before .before .before .before .before .before .before .before .before .before .before .before .before .args .a) (c .before .before .before .before .before .before .before .before .before .before .before .before .before .args .n) (c .before .before .before .before .before .before .before .before .before .before .before .before .before .pre .suits .fits))) (c .before .whole-columns .ensures), heard-at (c .before .before .before .before .before .before .before .before .before .before .before .before .before .pre .heard) (omega arith))
 
 pub turn-spec : {M : Type 1} → statement M
 turn-spec =
