@@ -1,11 +1,13 @@
 #!/usr/bin/env python3
-"""Writes the inputs of the programs `ampline` and `replay` and what they have to print, from document 01's case A.
+"""Writes the inputs of the programs `ampline` and `replay` and what they have to print.
 
-Every line of a played column is one that document 01 prints for case A; the other lines are its refusals.
-Run from the repository's root: python3 tools/wna_cases.py
+The cases here are made from document 01's case A: every line of a played column is one that document 01 prints for it, and the other
+lines are its refusals. The cases of the folder SAMPLE are files CASE.wna with what has to be printed in CASE.out (docs/replay.md).
+Run from the repository's root: python3 tools/wna_cases.py SAMPLE
 """
 import os
 import struct
+import sys
 
 ARRAY = [1, 1, 1, 1, 1, 1, 0, 1]
 LAYER = [1, 2, 2, 1, 1, 0, 1, 0, 0, 0, 1, 1] + [0] * 12
@@ -107,15 +109,25 @@ def write(path, data):
         f.write(data)
 
 
-def main():
+def sampled(folder):
+    names = sorted(name[:-4] for name in os.listdir(folder) if name.endswith(".wna"))
+    for name in names:
+        with open(os.path.join(folder, name + ".wna"), "rb") as f:
+            data = f.read()
+        with open(os.path.join(folder, name + ".out")) as f:
+            yield name + ".wna", data, f.read().splitlines()
+
+
+def main(folder):
     write("crates/ampline/stdin", case_a(4))
     write("crates/ampline/stdout", "".join(l + "\n" for l in played(4, "end 4")).encode())
+    cases = CASES + list(sampled(folder))
     out = []
-    for name, data, lines in CASES:
+    for name, data, lines in cases:
         write("crates/replay/data/" + name, data)
         out += [name] + lines
-    write("crates/replay/args", "".join(name + "\n" for name, _, _ in CASES).encode())
+    write("crates/replay/args", "".join(name + "\n" for name, _, _ in cases).encode())
     write("crates/replay/stdout", "".join(l + "\n" for l in out).encode())
 
 
-main()
+main(sys.argv[1])

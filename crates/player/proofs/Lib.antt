@@ -1,5 +1,6 @@
 mod Hearing
 mod InRing
+pub mod Joined
 mod Playing
 mod Room
 mod Sized

@@ -1,5 +1,5 @@
-// Plays each file that its arguments name, as `ampline` plays standard input, and prints the file's name before it. tools/wna_cases.py writes the files
-// and what has to be printed. Document 01, 'The program'.
+// Plays each file that its arguments name, as `ampline` plays standard input, and prints the file's name before it. docs/replay.md says where the files
+// and what has to be printed come from. Document 01, 'The program'.
 use libc::STDOUT_FILENO;
 
 // One file; one that cannot be opened prints its name alone.
