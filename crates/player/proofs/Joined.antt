@@ -36,8 +36,10 @@ column-lines-join first xs ys =
   where
     f : ℕ → List Float
     f t = let v = getD (xs ++ ys) t noColumn in v .accumulator ++ v .signal
+
     before : (t : ℕ) → t < length xs → f t ≡ getD xs t noColumn .accumulator ++ getD xs t noColumn .signal
     before t l = ap (λ (v : Column). v .accumulator ++ v .signal) (List·getD-append xs ys noColumn t l)
+
     after : (t : ℕ) → t < length ys → f (length xs + t) ≡ getD ys t noColumn .accumulator ++ getD ys t noColumn .signal
     after t l = ap (λ (v : Column). v .accumulator ++ v .signal) (getD-append-add xs ys t noColumn)
 

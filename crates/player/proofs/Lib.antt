@@ -1,3 +1,4 @@
+mod Cases
 mod Hearing
 mod InRing
 pub mod Joined
