@@ -1,0 +1,3 @@
+pub mod Fits
+pub mod Plays
+pub mod Whole
