@@ -1,4 +1,5 @@
 mod Cases
+pub mod Cut
 mod Hearing
 mod InRing
 pub mod Joined

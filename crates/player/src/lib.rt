@@ -1,5 +1,6 @@
-// Plays a file of the program's format from a descriptor, and prints as it goes. No contract can say which bytes are read or written, so reading and
-// writing is all that is here: what is refused, how much is played and what is printed is told by wna and lines. Document 01, 'The program'.
+// Plays a file of the program's format from a descriptor, and prints as it goes. No contract can say which bytes are read or written. What is refused and
+// how much is played is told by wna; that a block's text is the recurrence's from the reset on is told by the contracts of `turn` and `stream`
+// (specs/Plays.antt), and specs/Whole.antt puts all of it together. Document 01, 'The program'.
 pub mod stream;
 pub mod turn;
 

@@ -1,6 +1,6 @@
 // One turn: the next block's columns are read, played and printed. Document 01, 'The program'.
 ghost use mathlib.Core.Path.{_≡_};
-ghost use Prim.Native.Nat.{_+_, _*_, _≤_, _<_};
+ghost use Prim.Native.Nat.{_+_, _*_, _≤_};
 ghost use lib.ListN.{length};
 ghost use Rattle.wna.specs.File.{widthOf};
 ghost use Rattle.wna.specs.Columns.{spreadOf};
