@@ -8,6 +8,7 @@ mod cases;
 mod largest;
 mod pieces;
 mod plans;
+mod played;
 mod signal;
 
 use crate::pieces::run;

@@ -2,8 +2,8 @@
 use native.Mathlib.Omega.{arith}
 use lib.ListN.{length-take}
 use borrow.Author.Needs.{needs}
-use Rattle.sequences.proofs.pieces.by_plan.Statement.{statement}
-use Rattle.sequences.proofs.pieces.by_plan.Tie as tie
+use Rattle.sequences.proofs.played.by_plan.Statement.{statement}
+use Rattle.sequences.proofs.played.by_plan.Tie as tie
 
 turn-count-requires : tie.Need-turn-count-requires
 turn-count-requires c κs = search needs
