@@ -1,6 +1,6 @@
 #!/usr/bin/env bash
-# All tests: the quick checks over the static library first, then `rt ci`: every crate proved from nothing, every must-fail edit refused, every
-# program run. The last line is rt's 'N passed, M failed'.
+# All tests: `rt ci` first (every crate proved from nothing, every must-fail edit refused, every program run), then the quick checks over the static
+# library that it proved. The last line is rt's 'N passed, M failed'; any failure ends the run before it.
 set -euo pipefail
 cd "$(dirname "$0")/.."
 
@@ -14,6 +14,11 @@ need() { # the packages that the quick checks are built with
 }
 
 need gcc libmpfr-dev
+verdict=$(mktemp)
+trap 'rm -f "$verdict"' EXIT
+echo "== rt ci: proofs from nothing, must-fail edits, programs"
+rt ci | tee "$verdict"
+
 echo "== the examples, held to what they should print"
 bash examples/play.sh >/dev/null
 target/examples/play | diff examples/c/expected.txt -
@@ -28,5 +33,4 @@ bash tools/compare/run.sh
 echo "== bad input at scale: right numbers, nothing touched"
 bash tools/faults/run.sh
 
-echo "== rt ci: proofs from nothing, must-fail edits, programs"
-rt ci
+tail -n 1 "$verdict"
