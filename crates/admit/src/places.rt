@@ -34,7 +34,10 @@ impl Pass {
         ensures { λ r. ⌜ r ≡ passed (now (positions .entry)) self (part ∷ []) ⌝ }
     {
         match part {
-            Part::Absent => self,
+            Part::Absent => Pass {
+                at: self.at,
+                beyond: self.beyond,
+            },
             Part::There(sh) => {
                 let at = self.at;
                 let place = positions[at] as usize;

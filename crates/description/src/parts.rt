@@ -117,7 +117,7 @@ fn head1x1(a: ArrayRecord, r: LayerRecord) -> Part
 }
 
 // The groups of site i.
-fn site_groups(s: Sites, i: usize) -> usize
+pub fn site_groups(s: Sites, i: usize) -> usize
     requires { ⌜ i < 8 ⌝ }
     ensures { λ n. ⌜ n ≡ siteGroups s i ⌝ }
 {
@@ -186,6 +186,20 @@ fn site(a: ArrayRecord, r: LayerRecord, i: usize) -> Part
     })
 }
 
+// Slot k of a layer's first four: conv, mixin, layer1x1, head1x1.
+pub fn core(a: ArrayRecord, r: LayerRecord, k: usize) -> Part
+    requires { ⌜ LayerRanges r ⌝ }
+    requires { ⌜ k < 4 ⌝ }
+    ensures { λ p. ⌜ p ≡ partOf a r k ⌝ }
+{
+    match k {
+        0 => conv(a, r),
+        1 => mixin(a, r),
+        2 => layer1x1(a, r),
+        _ => head1x1(a, r),
+    }
+}
+
 // Slot k of a layer: conv, mixin, layer1x1, head1x1, the sites 0 to 7.
 pub fn slot(a: ArrayRecord, r: LayerRecord, k: usize) -> Part
     requires { ⌜ ArrayRanges a ⌝ }
@@ -193,13 +207,10 @@ pub fn slot(a: ArrayRecord, r: LayerRecord, k: usize) -> Part
     requires { ⌜ k < 12 ⌝ }
     ensures { λ p. ⌜ p ≡ partOf a r k ⌝ }
 {
-    match k {
-        0 => conv(a, r),
-        1 => mixin(a, r),
-        2 => layer1x1(a, r),
-        3 => head1x1(a, r),
-        _ => site(a, r, k - 4),
+    if k < 4 {
+        return core(a, r, k);
     }
+    site(a, r, k - 4)
 }
 
 // Whether the groups fail to divide both sides. Most convolutions have one group, and a division is dear where a call is one column.
