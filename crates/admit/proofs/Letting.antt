@@ -13,8 +13,6 @@ use Rattle.description.specs.Sizes.{positionsOf, sizesOf, total}
 use Rattle.description.specs.declared.records.ArrayRecord.{ArrayRecord}
 use Rattle.description.specs.declared.answers.Sizes.{Sizes}
 use Rattle.description.specs.Refusals.{refusalOf}
-use Rattle.description.proofs.Sound.{layers-are}
-use Rattle.array.specs.Stages.{stageCount}
 use Rattle.array.specs.Lent.{Lent}
 use Rattle.array.specs.Refusals.{blockRefusal, refused6, refused7, refused8}
 use Rattle.admit.specs.Admits.{Admitted}
@@ -34,10 +32,6 @@ few n le = le-ltb 1024 n le
 pub columns-are : (n : ℕ) → refused6 n ≡ false → n ≤ 1024
 unfolding refused6
 columns-are n e = ltb-false 1024 n e
-
--- 9: as many stages as a plan is walked with
-pub stages-most : (d : List ℕ) → refusalOf d ≡ 0 → stageCount d ≤ 26
-stages-most d e = omega (arith, layers-are d e .most)
 
 -- none of nine tests holds
 record NoneOfNine (a b c d e f g h i : Bool) : Type 0 where

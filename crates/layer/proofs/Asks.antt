@@ -1,9 +1,10 @@
 -- What a FiLM site and a convolution ask of a layer's buffers follows from what the layer asks. Assumes nothing.
 use mathlib.Core.Path.{_≡_, refl, sym, _∙_, ap}
-use mathlib.Core.Bool.{Bool, true, false, cond, not, _&&_, true≢false, false≢true}
+use mathlib.Core.Bool.{Bool, true, false, cond, not, _&&_, _||_, true≢false, false≢true}
 use borrow.Author.Tests.{eqb-true, eq-eqb}
 use mathlib.Core.List.{List}
 use Prim.Native.Nat.{ℕ, zero, suc, _+_, _-_, _*_, _≤_, _<_}
+use native.Mathlib.Nat.{add-zero}
 use native.Mathlib.Omega.{arith}
 use lib.Dec.{eqb}
 use lib.ListN.{length, getD}
@@ -13,20 +14,21 @@ use Rattle.ring.specs.Memory.{Memory}
 use Rattle.shape.specs.declared.Shape.{Shape}
 use Rattle.shape.specs.Counts.{historyCount, weightCount}
 use Rattle.description.specs.Parts.{convOf, mixinOf, layer1x1Of, head1x1Of, slotsOf, partOf, siteOf, siteWidth, siteGroups, unless0}
-use Rattle.description.specs.Sizes.{weightsOf, historiesOf, positionsOf}
+use Rattle.description.specs.Sizes.{weightsOf, historiesOf, positionsOf, pastOf}
 use Rattle.description.specs.Tally.{pastAll}
 use Rattle.description.specs.ZeroRules.{bit}
 use Rattle.description.specs.declared.records.ArrayRecord.{ArrayRecord}
 use Rattle.description.specs.declared.records.LayerRecord.{LayerRecord}
+use Rattle.description.specs.declared.parts.Part.{Part}
 use Rattle.description.specs.declared.parts.Part.the-variants.{Absent, There}
 use Rattle.description.specs.declared.places.Place.{Place}
 use Rattle.description.proofs.Slots.{slot-site}
 use Rattle.slot.specs.Play.{PlayFits}
 use Rattle.slot.specs.Site.{SiteThere, SiteFits}
-use Rattle.layer.specs.Column.{isBlended, applies, appliedSite, site, site′, after}
+use Rattle.layer.specs.Column.{isBlended, isThere, applies, appliedSite, site, site′, after}
 use Rattle.layer.specs.Layered.{slotPlace, slotWeights, memoriesAt, LayerFits}
 use Rattle.layer.specs.Pieces.{Behind, Room, insOf, outsOf}
-use Rattle.layer.proofs.Places.{slot-within}
+use Rattle.layer.proofs.Places.{slot-within, slot-next}
 use Rattle.layer.proofs.Steps.{histories-in, positions-in}
 
 -- ---- sites as they are applied
@@ -58,6 +60,19 @@ not-both true true e q = refl
 not-both true false e q = absurd (true≢false e)
 not-both false b e q = absurd (false≢true q)
 
+either : (t b : Bool) → (t && not b) ≡ false → (not t || b) ≡ true
+either true true e = refl
+either true false e = absurd (true≢false e)
+either false b e = refl
+
+and-false : (b : Bool) → (b && false) ≡ false
+and-false true = refl
+and-false false = refl
+
+and-true : (b : Bool) → (b && true) ≡ b
+and-true true = refl
+and-true false = refl
+
 module _ (a : ArrayRecord) (r : LayerRecord) (i : ℕ) (b : Bool) (mode : b ≡ isBlended (r .mode)) where
   pub left-out : (eqb i 6 && not b) ≡ true → Absent ≡ appliedSite a r i
   unfolding appliedSite applies
@@ -83,8 +98,35 @@ module _ (a : ArrayRecord) (r : LayerRecord) (i : ℕ) (b : Bool) (mode : b ≡ 
   unfolding appliedSite
   played h e = rw (played-by i h (λ six. sym mode ∙ not-both (eqb i 6) b e (eq-eqb i 6 six))) (sym (site-part a r i (h .site-in)))
 
+  -- a part that a 0 makes absent is there where the number is not 0
+  there-unless : (g : ℕ) (s : Shape) → not (eqb g 0) ≡ isThere (unless0 g s)
+  unfolding unless0
+  there-unless g s = by (eqb g 0)
+    where
+      by : (e : Bool) → not e ≡ isThere (cond e Absent (There s))
+      by true = refl
+      by false = refl
+
+  -- whether site i is played, by what the code asks
+  pub plays-is : Behind a r i → (g : ℕ) → g ≡ siteGroups (r .sites) i → (not (eqb g 0) && (not (eqb i 6) || b)) ≡ isThere (appliedSite a r i)
+  unfolding siteOf
+  plays-is h g e = by (eqb i 6 && not b) refl
+    where
+      by : (x : Bool) → (eqb i 6 && not b) ≡ x → (not (eqb g 0) && (not (eqb i 6) || b)) ≡ isThere (appliedSite a r i)
+      by true q =
+          let z = both (eqb i 6) b q in
+          rw (z .0, z .1, and-false (not (eqb g 0))) (ap isThere (left-out q))
+      by false q =
+          rw (either (eqb i 6) b q, and-true (not (eqb g 0)), e)
+          (there-unless (siteGroups (r .sites) i) _ ∙ ap isThere (site-part a r i (h .site-in) ∙ played h q))
+
 pub not-there : {A : Type 0} {sh : Shape} → Absent ≡ There sh → A
 not-there e = let z : _≡_ {A = ℕ} 0 1 = cc in absurd (omega arith)
+
+-- a part that is not there
+pub not-played : (p : Part) → false ≡ isThere p → p ≡ Absent
+not-played Absent e = refl
+not-played (There sh) e = absurd (false≢true e)
 
 -- a part that is there, of one that a 0 makes absent
 shape-unless : (n : ℕ) (s sh : Shape) → unless0 n s ≡ There sh → s ≡ sh
@@ -103,6 +145,19 @@ module _ (a : ArrayRecord) (r : LayerRecord) (i : ℕ) (sh : Shape) (e : siteOf 
   site-outs : sh .outs ≡ siteWidth a r i * cond (bit (r .«shift_bits») i) 2 1
   unfolding siteOf
   site-outs = sym (ap (λ (s : Shape). s .outs) (shape-unless (siteGroups (r .sites) i) _ sh e))
+
+-- a site without groups is absent, and takes no place
+pub no-site : (a : ArrayRecord) (r : LayerRecord) (i : ℕ) → i < 8 → siteGroups (r .sites) i ≡ 0 → partOf a r (4 + i) ≡ Absent
+unfolding siteOf unless0
+no-site a r i h e = sym (site-part a r i h) ∙ rw (eq-eqb (siteGroups (r .sites) i) 0 e)
+
+nowhere : (p : Place) → p ≡ pastOf p Absent
+unfolding pastOf weightsOf historiesOf positionsOf
+nowhere p = rw (add-zero (p .weights), add-zero (p .histories), add-zero (p .positions))
+
+pub past-none : (a : ArrayRecord) (r : LayerRecord) (start : Place) (i : ℕ) → i < 8 → partOf a r (4 + i) ≡ Absent → slotPlace a r start (4 + i) ≡ slotPlace a r start (suc (4 + i))
+past-none a r start i h e =
+    nowhere (slotPlace a r start (4 + i)) ∙ ap (pastOf (slotPlace a r start (4 + i))) (sym e) ∙ slot-next a r start (4 + i) (omega arith)
 
 -- scales and shifts fill two regions
 two-regions : (w m size : ℕ) (b : Bool) → w * m ≤ size → w * cond b 2 1 * m ≤ 2 * size

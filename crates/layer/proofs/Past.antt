@@ -22,6 +22,7 @@ use Rattle.slot.specs.View.{memoryIn, weightsIn}
 use Rattle.slot.specs.Steps.{pushed, convolved, sited}
 use Rattle.slot.specs.Play.{Played}
 use Rattle.slot.specs.Site.{Sited}
+use Rattle.slot.proofs.Sites.{site-absent}
 use Rattle.slot.proofs.Trace.{play-trace, site-trace, place-stays, site-place-stays, memory-kept}
 use Rattle.layer.specs.Column.{appliedSite, site, site′}
 use Rattle.layer.specs.Layered.{slotPlace, slotMemory, slotWeights, memoriesAt, LayerFits}
@@ -113,6 +114,11 @@ module _ {a : ArrayRecord} {r : LayerRecord} {start : Place} {size m nwork : ℕ
       by = λ x c s v u held. (site-under-way x c s v u held, does x c s v u held (applied a r i hi) .1);
       leaves = site-leaves;
     }
+
+  -- a site that is not played: nothing is done
+  pub site-left-out : (i : ℕ) → i < 8 → {from to : ℕ} → 4 * size ≤ to → {work : List Float} → appliedSite a r i ≡ Absent
+      → SitePast a r start weights size m work histories positions work histories positions i from to from
+  site-left-out i h past q = site-past i h past (site-absent _ _ _ _ _ _ _ _ _ _ _ _ _ _ _ q)
 
   -- ---- the convolution of slot k
   module _ (k : ℕ) (hk : k < 4) {from to : ℕ} {work : List Float} where

@@ -5,12 +5,14 @@ ghost use lib.ListN.{length};
 ghost use Rattle.description.specs.Parts.{siteWidth};
 ghost use Rattle.description.specs.Ranges.{ArrayRanges, LayerRanges};
 ghost use Rattle.description.specs.ZeroRules.{bit};
-ghost use Rattle.layer.specs.Column.{appliedSite, isBlended};
+ghost use Rattle.layer.specs.Column.{appliedSite, isBlended, isThere};
 ghost use Rattle.layer.specs.Layered.{LayerFits};
 ghost use Rattle.layer.specs.Slots.{SlotsOf};
 ghost use Rattle.layer.specs.Pieces.{Behind, Room, SitePast, ConvPast};
 use crate::slots::Slots;
 use description::parts::Part;
+use description::parts::core;
+use description::parts::site_groups;
 use description::parts::slot;
 use description::records::ArrayRecord;
 use description::records::LayerRecord;
@@ -33,6 +35,18 @@ fn blended(mode: Mode) -> bool
         Mode::Gated => false,
         Mode::Blended => true,
     }
+}
+
+// Whether site i is played. It is asked before anything is made ready for the site: most are absent, and a call is often one column.
+fn plays(r: LayerRecord, i: usize) -> bool
+    requires { ⌜ i < 8 ⌝ }
+    ensures { λ b. ⌜ ((a : ArrayRecord) → Behind a r i → b ≡ isThere (appliedSite a r i)) ⌝ }
+{
+    let mode = r.mode;
+    let applies = blended(mode);
+    let sites = r.sites;
+    let groups = site_groups(sites, i);
+    (groups != 0) & ((i != 6) | applies)
 }
 
 // Site i as it is applied: site 6 only in Blended.
@@ -71,7 +85,7 @@ pub fn convolve(
     ensures { λ _. ⌜ ConvPast a r (slots .conv) (now (weights .entry)) size m (now (work .entry)) (now (histories .entry)) (now (positions .entry))
         (now (work .exit)) (now (histories .exit)) (now (positions .exit)) k from to ⌝ }
 {
-    let Part::There(sh) = slot(a, r, k) else {
+    let Part::There(sh) = core(a, r, k) else {
         return;
     };
     let at = slots.place(k);
@@ -90,8 +104,8 @@ pub fn convolve(
     );
 }
 
-// FiLM site i in place: w channels at `to`. Regions 9 to 11 are used up.
-pub fn modulate(
+// FiLM site i in place: w channels at `to`, whether it is played or not. Regions 9 to 11 are used up.
+fn modulate_by(
     work: &mut [f32],
     histories: &mut [f32],
     positions: &mut [u32],
@@ -136,8 +150,47 @@ pub fn modulate(
     );
 }
 
-// FiLM site i from a region to another: w channels. It answers where they are.
-pub fn modulated(
+// FiLM site i in place: w channels at `to`. Regions 9 to 11 are used up.
+pub fn modulate(
+    work: &mut [f32],
+    histories: &mut [f32],
+    positions: &mut [u32],
+    weights: &[f32],
+    a: ArrayRecord,
+    r: LayerRecord,
+    slots: Slots,
+    i: usize,
+    to: usize,
+    w: usize,
+    size: usize,
+    m: usize,
+)
+    requires { ⌜ LayerFits a r (slots .conv) size m (length (now work)) (now histories) (now positions) (now weights) ⌝ }
+    requires { ⌜ SlotsOf a r slots ⌝ }
+    requires { ⌜ Behind a r i × Room size to × (w ≡ siteWidth a r i) ⌝ }
+    ensures { λ _. ⌜ SitePast a r (slots .conv) (now (weights .entry)) size m (now (work .entry)) (now (histories .entry)) (now (positions .entry))
+        (now (work .exit)) (now (histories .exit)) (now (positions .exit)) i to to to ⌝ }
+{
+    if plays(r, i) {
+        modulate_by(
+            work,
+            histories,
+            positions,
+            weights,
+            a,
+            r,
+            slots,
+            i,
+            to,
+            w,
+            size,
+            m,
+        );
+    }
+}
+
+// FiLM site i from a region to another: w channels, whether it is played or not. It answers where they are.
+fn modulated_by(
     work: &mut [f32],
     histories: &mut [f32],
     positions: &mut [u32],
@@ -182,4 +235,46 @@ pub fn modulated(
         width,
         m,
     )
+}
+
+// FiLM site i from a region to another: w channels. It answers where they are.
+pub fn modulated(
+    work: &mut [f32],
+    histories: &mut [f32],
+    positions: &mut [u32],
+    weights: &[f32],
+    a: ArrayRecord,
+    r: LayerRecord,
+    slots: Slots,
+    i: usize,
+    from: usize,
+    to: usize,
+    w: usize,
+    size: usize,
+    m: usize,
+) -> usize
+    requires { ⌜ LayerFits a r (slots .conv) size m (length (now work)) (now histories) (now positions) (now weights) ⌝ }
+    requires { ⌜ SlotsOf a r slots ⌝ }
+    requires { ⌜ Behind a r i × Room size to × (w ≡ siteWidth a r i) × (from + size ≤ to) × (to ≤ 9 * size) ⌝ }
+    ensures { λ result. ⌜ SitePast a r (slots .conv) (now (weights .entry)) size m (now (work .entry)) (now (histories .entry)) (now (positions .entry))
+        (now (work .exit)) (now (histories .exit)) (now (positions .exit)) i from to result ⌝ }
+{
+    if plays(r, i) {
+        return modulated_by(
+            work,
+            histories,
+            positions,
+            weights,
+            a,
+            r,
+            slots,
+            i,
+            from,
+            to,
+            w,
+            size,
+            m,
+        );
+    }
+    from
 }

@@ -1,11 +1,13 @@
 // Where the numbers of a layer's slots start. Document 01, 'Description' (order of convolutions).
 ghost use mathlib.Core.Path.{_≡_};
-ghost use Prim.Native.Nat.{suc, _<_};
+ghost use Prim.Native.Nat.{suc, _+_, _<_};
 ghost use Rattle.description.specs.Parts.{slotsOf};
 ghost use Rattle.description.specs.Ranges.{ArrayRanges, LayerRanges, Low};
 ghost use Rattle.description.specs.Tally.{pastAll};
 ghost use Rattle.layer.specs.Layered.{slotPlace};
 ghost use Rattle.layer.specs.Slots.{placeIn, SlotsOf};
+use description::parts::core;
+use description::parts::site_groups;
 use description::parts::slot;
 use description::places::Place;
 use description::records::ArrayRecord;
@@ -51,15 +53,30 @@ impl Slots {
     }
 }
 
-// The place of the slot after slot k, which starts at `at`.
-fn next(a: ArrayRecord, r: LayerRecord, start: Place, at: Place, k: usize) -> Place
+// The place past slot k of the first four, which starts at `at`.
+fn past_core(a: ArrayRecord, r: LayerRecord, start: Place, at: Place, k: usize) -> Place
     requires { ⌜ ArrayRanges a ⌝ }
     requires { ⌜ LayerRanges r ⌝ }
     requires { ⌜ Low 0xffff_ffff (pastAll start (slotsOf a r)) ⌝ }
-    requires { ⌜ (k < 12) × (at ≡ slotPlace a r start k) ⌝ }
+    requires { ⌜ (k < 4) × (at ≡ slotPlace a r start k) ⌝ }
     ensures { λ p. ⌜ p ≡ slotPlace a r start (suc k) ⌝ }
 {
-    at.past(slot(a, r, k))
+    at.past(core(a, r, k))
+}
+
+// The place past site i, which starts at `at`. One that is absent takes no place: that is asked first, as most are.
+fn past_site(a: ArrayRecord, r: LayerRecord, start: Place, at: Place, i: usize) -> Place
+    requires { ⌜ ArrayRanges a ⌝ }
+    requires { ⌜ LayerRanges r ⌝ }
+    requires { ⌜ Low 0xffff_ffff (pastAll start (slotsOf a r)) ⌝ }
+    requires { ⌜ (i < 8) × (at ≡ slotPlace a r start (4 + i)) ⌝ }
+    ensures { λ p. ⌜ p ≡ slotPlace a r start (suc (4 + i)) ⌝ }
+{
+    let sites = r.sites;
+    if site_groups(sites, i) == 0 {
+        return at;
+    }
+    at.past(slot(a, r, 4 + i))
 }
 
 // The places of a layer whose numbers start at `start`.
@@ -69,18 +86,18 @@ pub fn slots_from(a: ArrayRecord, r: LayerRecord, start: Place) -> Slots
     requires { ⌜ Low 0xffff_ffff (pastAll start (slotsOf a r)) ⌝ }
     ensures { λ s. ⌜ (s .conv ≡ start) × SlotsOf a r s × (s .end ≡ pastAll start (slotsOf a r)) ⌝ }
 {
-    let mixin = next(a, r, start, start, 0);
-    let layer1x1 = next(a, r, start, mixin, 1);
-    let head1x1 = next(a, r, start, layer1x1, 2);
-    let conv_pre = next(a, r, start, head1x1, 3);
-    let conv_post = next(a, r, start, conv_pre, 4);
-    let input_mixin_pre = next(a, r, start, conv_post, 5);
-    let input_mixin_post = next(a, r, start, input_mixin_pre, 6);
-    let activation_pre = next(a, r, start, input_mixin_post, 7);
-    let activation_post = next(a, r, start, activation_pre, 8);
-    let layer1x1_post = next(a, r, start, activation_post, 9);
-    let head1x1_post = next(a, r, start, layer1x1_post, 10);
-    let end = next(a, r, start, head1x1_post, 11);
+    let mixin = past_core(a, r, start, start, 0);
+    let layer1x1 = past_core(a, r, start, mixin, 1);
+    let head1x1 = past_core(a, r, start, layer1x1, 2);
+    let conv_pre = past_core(a, r, start, head1x1, 3);
+    let conv_post = past_site(a, r, start, conv_pre, 0);
+    let input_mixin_pre = past_site(a, r, start, conv_post, 1);
+    let input_mixin_post = past_site(a, r, start, input_mixin_pre, 2);
+    let activation_pre = past_site(a, r, start, input_mixin_post, 3);
+    let activation_post = past_site(a, r, start, activation_pre, 4);
+    let layer1x1_post = past_site(a, r, start, activation_post, 5);
+    let head1x1_post = past_site(a, r, start, layer1x1_post, 6);
+    let end = past_site(a, r, start, head1x1_post, 7);
     Slots {
         conv: start,
         mixin,

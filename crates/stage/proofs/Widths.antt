@@ -82,9 +82,6 @@ module _ {d : List ℕ} {span : Span} {k : ℕ} {start : Place} {nweights nhisto
     pub second-apart : (i : ℕ) → 3 ≤ i → Apart (span .size + span .from) (w * span .n) (i * span .size) (w * span .count)
     second-apart i h = omega (arith, mul-le-mul-right {m = 3} {n = i} (span .size) h, r .of-block, from-small)
 
-    pub apart-first : (i : ℕ) → 2 ≤ i → Apart (i * span .size) (w * span .count) (span .from) (w * span .n)
-    apart-first i h = omega (arith, first-apart i h)
-
     pub apart-second : (i : ℕ) → 3 ≤ i → Apart (i * span .size) (w * span .count) (span .size + span .from) (w * span .n)
     apart-second i h = omega (arith, second-apart i h)
 
