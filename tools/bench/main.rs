@@ -19,7 +19,8 @@ const GROWING: [Growing; 3] = [
     ("channels", [1, 2, 4, 8, 16, 32], |x| description(Shape::Tanh, x, &doubling(10))),
     ("dilation", [1, 8, 64, 256, 1024, 2048], |x| description(Shape::Tanh, 16, &[x; 10])),
 ];
-const GROWN_BLOCKS: [usize; 2] = [16, 256];
+/// The calls by which growth is timed: columns, and whether they are single.
+const GROWN: [(usize, bool); 3] = [(1, true), (16, false), (256, false)];
 
 /// The four shapes, single columns and blocks.
 fn shape_cases() -> Vec<Case> {
@@ -30,9 +31,9 @@ fn shape_cases() -> Vec<Case> {
 
 fn growth_cases() -> Vec<Case> {
     let mut all = vec![];
-    for n in GROWN_BLOCKS {
+    for (n, single) in GROWN {
         for (what, values, of) in GROWING {
-            all.extend(values.iter().map(|x| Case::new(&format!("{what} {x}"), of(*x), n, false)));
+            all.extend(values.iter().map(|x| Case::new(&format!("{what} {x}"), of(*x), n, single)));
         }
     }
     all
@@ -77,14 +78,14 @@ fn shape_chart(cases: &[Case]) -> String {
 }
 
 fn growth_chart(cases: &[Case]) -> String {
-    let mut svg = Svg::new(740.0, 440.0);
+    let mut svg = Svg::new(740.0, 640.0);
     for (i, grown) in cases.chunks(GROWING[0].1.len()).enumerate() {
         let (what, values, _) = GROWING[i % GROWING.len()];
         let lines: Vec<Vec<f64>> = (0..models::ENGINES).map(|e| grown.iter().map(|c| c.best[e]).collect()).collect();
         let (x, y) = (40.0 + 240.0 * (i % 3) as f64, 26.0 + 200.0 * (i / 3) as f64);
-        svg.growth(x, y, &format!("{what}, blocks of {}", grown[0].n), &values, &lines);
+        svg.growth(x, y, &format!("{what}, {}", grown[0].call()), &values, &lines);
     }
-    svg.key(40.0, 426.0, 0, &["ours", "Rust with our exp, tanh", "Rust with its own"]);
+    svg.key(40.0, 626.0, 0, &["ours", "Rust with our exp, tanh", "Rust with its own"]);
     svg.finish()
 }
 
