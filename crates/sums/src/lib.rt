@@ -7,7 +7,7 @@ ghost use lib.Ieee.{add, mul, binary32};
 ghost use Rattle.lists.specs.Tab.{at, tab, fill, rows};
 ghost use Rattle.single.specs.Sum.{sumFrom};
 ghost use Rattle.sums.specs.Product.{product};
-ghost use Rattle.sums.specs.Fits.{InputsFit, RowFits, OutputsFit};
+ghost use Rattle.sums.specs.Fits.{InputsFit, RowFits, OutputsFit, OneOrThree, ByFours};
 
 // Sixteen numbers of work.
 fn load(work: &[f32], from: usize) -> [f32; 16]
@@ -128,7 +128,143 @@ fn add_weights(
     r
 }
 
-// Every input's product, in each of eight lanes.
+// The same where all eight lanes are outputs: no lane has to be kept within them.
+fn add_whole(sums: [f32; 8], weights: &[f32], w: usize, between: usize, x: f32) -> [f32; 8]
+    requires { ⌜ ((i : ℕ) → i ≤ 7 → w + i * between < length (now weights)) ⌝ }
+    ensures { λ r. ⌜ r ≡ tab 8 (λ i. add binary32 (at sums i) (mul binary32 (at (now (weights .entry)) (w + i * between)) x)) ⌝ }
+{
+    let mut r = sums;
+    for i in 0..8 {
+        r[i] = r[i] + weights[w + i * between] * x;
+    }
+    r
+}
+
+// Four inputs, their weights next to each other (kernel 1). As four and the step are written out, the compiler loads four weights at once.
+fn four_next(
+    sums: [f32; 8],
+    values: &[f32],
+    weights: &[f32],
+    from: usize,
+    w: usize,
+    between: usize,
+) -> [f32; 8]
+    requires { ⌜ OutputsFit (length (now values)) (length (now weights)) from w between 7 1 4 ⌝ }
+    ensures { λ r. ⌜ r ≡ tab 8 (λ i. sumFrom (at sums i) 4
+        (product (now (weights .entry)) (w + i * between) 1 (λ j. at (now (values .entry)) (from + j)))) ⌝ }
+{
+    let mut r = sums;
+    for j in 0..4 {
+        let more = add_whole(r, weights, w + j, between, values[from + j]);
+        r = more;
+    }
+    r
+}
+
+// Four inputs, their weights three apart (kernel 3).
+fn four_thirds(
+    sums: [f32; 8],
+    values: &[f32],
+    weights: &[f32],
+    from: usize,
+    w: usize,
+    between: usize,
+) -> [f32; 8]
+    requires { ⌜ OutputsFit (length (now values)) (length (now weights)) from w between 7 3 4 ⌝ }
+    ensures { λ r. ⌜ r ≡ tab 8 (λ i. sumFrom (at sums i) 4
+        (product (now (weights .entry)) (w + i * between) 3 (λ j. at (now (values .entry)) (from + j)))) ⌝ }
+{
+    let mut r = sums;
+    for j in 0..4 {
+        let more = add_whole(r, weights, w + j * 3, between, values[from + j]);
+        r = more;
+    }
+    r
+}
+
+// n fours of inputs, the weights of all next to each other.
+fn fours_next(
+    sums: [f32; 8],
+    values: &[f32],
+    weights: &[f32],
+    from: usize,
+    w: usize,
+    between: usize,
+    n: usize,
+) -> [f32; 8]
+    requires { ⌜ OutputsFit (length (now values)) (length (now weights)) from w between 7 1 (n * 4) ⌝ }
+    ensures { λ r. ⌜ r ≡ tab 8 (λ i. sumFrom (at sums i) (n * 4)
+        (product (now (weights .entry)) (w + i * between) 1 (λ j. at (now (values .entry)) (from + j)))) ⌝ }
+{
+    let mut r = sums;
+    for q in 0..n {
+        let more = four_next(r, values, weights, from + q * 4, w + q * 4, between);
+        r = more;
+    }
+    r
+}
+
+// n fours of inputs, the weights of all three apart.
+fn fours_thirds(
+    sums: [f32; 8],
+    values: &[f32],
+    weights: &[f32],
+    from: usize,
+    w: usize,
+    between: usize,
+    n: usize,
+) -> [f32; 8]
+    requires { ⌜ OutputsFit (length (now values)) (length (now weights)) from w between 7 3 (n * 4) ⌝ }
+    ensures { λ r. ⌜ r ≡ tab 8 (λ i. sumFrom (at sums i) (n * 4)
+        (product (now (weights .entry)) (w + i * between) 3 (λ j. at (now (values .entry)) (from + j)))) ⌝ }
+{
+    let mut r = sums;
+    for q in 0..n {
+        let more = four_thirds(r, values, weights, from + q * 4, w + q * 12, between);
+        r = more;
+    }
+    r
+}
+
+// How many fours of inputs go by fours: all, where every lane is an output and the kernel is 1 or 3, the kernels of amplifier models; else none.
+fn fours(last: usize, step: usize, many: usize) -> usize
+    ensures { λ r. ⌜ ByFours last step many r ⌝ }
+{
+    if last < 7 {
+        return 0;
+    }
+    if step == 1 {
+        return many / 4;
+    }
+    if step == 3 {
+        return many / 4;
+    }
+    0
+}
+
+// The first n fours of inputs.
+fn add_fours(
+    sums: [f32; 8],
+    values: &[f32],
+    weights: &[f32],
+    from: usize,
+    w: usize,
+    between: usize,
+    step: usize,
+    n: usize,
+) -> [f32; 8]
+    requires { ⌜ OutputsFit (length (now values)) (length (now weights)) from w between 7 step (n * 4) × (0 < n → OneOrThree step) ⌝ }
+    ensures { λ r. ⌜ r ≡ tab 8 (λ i. sumFrom (at sums i) (n * 4)
+        (product (now (weights .entry)) (w + i * between) step (λ j. at (now (values .entry)) (from + j)))) ⌝ }
+{
+    if step == 1 {
+        fours_next(sums, values, weights, from, w, between, n)
+    } else {
+        fours_thirds(sums, values, weights, from, w, between, n)
+    }
+}
+
+// Every input's product, in each of eight lanes: fours of inputs where that can be, the others one by one.
 pub fn add_outputs(
     sums: [f32; 8],
     values: &[f32],
@@ -144,8 +280,9 @@ pub fn add_outputs(
     ensures { λ r. ⌜ r ≡ tab 8 (λ i. sumFrom (at sums i) many
         (product (now (weights .entry)) (w + min i last * between) step (λ j. at (now (values .entry)) (from + j)))) ⌝ }
 {
-    let mut r = sums;
-    for j in 0..many {
+    let n = fours(last, step, many);
+    let mut r = add_fours(sums, values, weights, from, w, between, step, n);
+    for j in n * 4..many {
         let more = add_weights(r, weights, w + j * step, between, last, values[from + j]);
         r = more;
     }

@@ -1,29 +1,52 @@
--- `sums::add_outputs` meets its contract. After j inputs each lane has the sum of j products, by `lanes-more`. Assumes nothing.
+-- `sums::add_outputs` meets its contract. The first inputs are summed by fours; after j inputs each lane has the sum of j products, by `lanes-more`. Assumes nothing.
 use mathlib.Core.Path.{_≡_, _∙_, ap}
+use mathlib.Core.List.{List}
 use Prim.Native.Nat.{min, ℕ, _+_, _*_, _-_, _≤_}
 use native.Mathlib.Omega.{arith}
 use lib.ListN.{length}
-use lib.Ieee.{nan}
+use lib.Ieee.{Float, nan}
 use borrow.Author.Needs.{needs}
 use Rattle.lists.proofs.Tab.{length-tab, tab-ext}
 use Rattle.sums.specs.Fits.{OutputsFit}
 use Rattle.sums.specs.Product.{product}
-use Rattle.sums.proofs.Lanes.{lanes-none, lanes-more}
+use Rattle.sums.proofs.Lanes.{lanes-ext, lanes-more}
 use Rattle.single.specs.Sum.{sumFrom}
 use Rattle.lists.specs.Tab.{at, tab}
 use Rattle.sums.proofs.add_outputs.Statement.{statement}
 use Rattle.sums.proofs.add_outputs.Tie as tie
 
+-- lane i's products of the first j inputs, from any sums on
+abbrev Summed : List Float → List Float → ℕ → ℕ → ℕ → ℕ → ℕ → (ℕ → Float) → ℕ → List Float → Type 0
+Summed values weights from w between last step start j r =
+    r ≡ tab 8 (λ i. sumFrom (start i) j (product weights (w + min i last * between) step (λ j. at values (from + j))))
+
 abbrev Inv-loop : tie.InvT-loop
-Inv-loop values weights from w between last step many r₀ j₀ r j =
+Inv-loop values weights from w between last step many n r₀ j₀ r j =
     (j ≤ many) × (length r ≡ 8) × OutputsFit (length values) (length weights) from w between last step many
-    × (r ≡ tab 8 (λ i. sumFrom (at r₀ i) j (product weights (w + min i last * between) step (λ j. at values (from + j)))))
+    × ((start : ℕ → Float) → Summed values weights from w between last step start j₀ r₀ → Summed values weights from w between last step start j r)
 
 abbrev μ-loop : tie.MeasureT-loop
-μ-loop values weights from w between last step many r₀ j₀ r j = many - j
+μ-loop values weights from w between last step many n r₀ j₀ r j = many - j
+
+fours-requires : tie.Need-fours-requires Inv-loop μ-loop
+fours-requires c κs = search needs
+
+add-fours-requires : tie.Need-add-fours-requires Inv-loop μ-loop
+add-fours-requires c κs =
+    let f = c .fours .ensures in
+    let all = c .before .before .before .pre in (
+      record {
+        values-in = omega (arith, all .values-in, f .few);
+        weights-in = λ i j hi hj. all .weights-in i j (omega (arith, f .whole (omega arith), hi)) (omega (arith, f .few, hj));
+      },
+      f .kernel,
+    )
+
+mul-j : tie.Need-mul-j Inv-loop μ-loop
+mul-j c = omega (arith, c .before .fours .ensures .few)
 
 loop-holds : tie.Need-loop-holds Inv-loop μ-loop
-loop-holds c = (search needs, search needs, c .before .before .pre, lanes-none 8 _ _ (search needs))
+loop-holds c = (c .before .fours .ensures .few, ap length (c .add-fours .ensures) ∙ length-tab 8 _, c .before .before .before .before .pre, λ start e. e)
 
 mul-add-weights : tie.Need-mul-add-weights Inv-loop μ-loop
 mul-add-weights c =
@@ -64,20 +87,24 @@ loop-less c = search needs
 loop-again : tie.Need-loop-again Inv-loop μ-loop
 unfolding product
 loop-again c =
-    let args = c .before .before .before .before .before .before .args in
+    let args = c .before .before .before .before .before .before .before .before .args in
     let loop = c .before .before .before .loop in
     let same : (i : ℕ) → args .w + loop .j * args .step + i * args .between ≡ args .w + i * args .between + loop .j * args .step = λ i. omega arith in (
       search needs,
       ap length (c .add-weights .ensures) ∙ length-tab 8 _,
       loop .inv .2,
-      lanes-more 8 (loop .j) _ _ (loop .r) _ (loop .inv .3) (c .add-weights .ensures ∙ tab-ext nan 8 _ _ (λ i lt. rw (same (min i (args .last))))),
+      λ start e. lanes-more 8 (loop .j) _ _ (loop .r) _ (loop .inv .3 start e) (c .add-weights .ensures ∙ tab-ext nan 8 _ _ (λ i lt. rw (same (min i (args .last))))),
     )
 
 returns : tie.Need-returns Inv-loop μ-loop
+unfolding product
 returns c =
-    let args = c .before .before .before .before .args in
+    let args = c .before .before .before .before .before .before .args in
     let loop = c .before .loop in
-    let e : loop .j ≡ args .many = omega arith in rw e at (loop .inv .3)
+    let f = c .before .before .before .fours .ensures in
+    let e : loop .j ≡ args .many = omega (arith, f .few) in
+    rw e at (loop .inv .3 (at (args .sums)) (lanes-ext 8 _ _ _ _ _ (c .before .before .add-fours .ensures) (λ i j hi hj.
+    let all : min i (args .last) ≡ i = omega (arith, f .whole (omega arith), hi) in rw all)))
 
 pub add-outputs-spec : {M : Type 1} → statement M
 add-outputs-spec =
@@ -85,6 +112,9 @@ add-outputs-spec =
     (tie.spec
     Inv-loop
     μ-loop
+    fours-requires
+    add-fours-requires
+    mul-j
     loop-holds
     mul-add-weights
     add-add-weights
