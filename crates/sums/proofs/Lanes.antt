@@ -75,11 +75,3 @@ outputs-part d k f le = record {
   values-in = omega (arith, f .values-in);
   weights-in = λ i j hi hj. omega (arith, f .weights-in i (d + j) hi (omega arith));
 }
-
--- another step is as good where it is the same, or where there are no inputs
-pub outputs-step : {nvalues nweights from w between last step many : ℕ} (other : ℕ) → OutputsFit nvalues nweights from w between last step many
-    → (0 < many → step ≡ other) → OutputsFit nvalues nweights from w between last other many
-outputs-step other f same = record {
-  values-in = f .values-in;
-  weights-in = λ i j hi hj. rw (same (omega arith)) at (f .weights-in i j hi hj);
-}

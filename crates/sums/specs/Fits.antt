@@ -21,12 +21,8 @@ pub record OutputsFit (nvalues nweights from w between last step many : ℕ) : T
   pub values-in : from + many ≤ nvalues
   pub weights-in : (i j : ℕ) → i ≤ last → j < many → w + i * between + j * step < nweights
 
--- a kernel that has a way of its own
-pub record OneOrThree (step : ℕ) : Type 0 where
-  pub three : (step ≡ 1 → ⊥) → step ≡ 3
-
--- r fours of the inputs, where there are any, can be summed by fours: all eight lanes are outputs, and the kernel has a way of its own
+-- r fours of the inputs, where there are any, can be summed by fours: all eight lanes are outputs, and the weights of two inputs are next to each other
 pub record ByFours (last step many r : ℕ) : Type 0 where
   pub few : r * 4 ≤ many
   pub whole : 0 < r → 7 ≤ last
-  pub kernel : 0 < r → OneOrThree step
+  pub next : 0 < r → step ≡ 1

@@ -7,7 +7,7 @@ ghost use lib.Ieee.{add, mul, binary32};
 ghost use Rattle.lists.specs.Tab.{at, tab, fill, rows};
 ghost use Rattle.single.specs.Sum.{sumFrom};
 ghost use Rattle.sums.specs.Product.{product};
-ghost use Rattle.sums.specs.Fits.{InputsFit, RowFits, OutputsFit, OneOrThree, ByFours};
+ghost use Rattle.sums.specs.Fits.{InputsFit, RowFits, OutputsFit, ByFours};
 
 // Sixteen numbers of work.
 fn load(work: &[f32], from: usize) -> [f32; 16]
@@ -140,7 +140,7 @@ fn add_whole(sums: [f32; 8], weights: &[f32], w: usize, between: usize, x: f32) 
     r
 }
 
-// Four inputs, their weights next to each other (kernel 1). As four and the step are written out, the compiler loads four weights at once.
+// Four inputs, their weights next to each other (kernel 1). As four and the step are written out, the compiler loads four weights of an output at once.
 fn four_next(
     sums: [f32; 8],
     values: &[f32],
@@ -156,27 +156,6 @@ fn four_next(
     let mut r = sums;
     for j in 0..4 {
         let more = add_whole(r, weights, w + j, between, values[from + j]);
-        r = more;
-    }
-    r
-}
-
-// Four inputs, their weights three apart (kernel 3).
-fn four_thirds(
-    sums: [f32; 8],
-    values: &[f32],
-    weights: &[f32],
-    from: usize,
-    w: usize,
-    between: usize,
-) -> [f32; 8]
-    requires { ⌜ OutputsFit (length (now values)) (length (now weights)) from w between 7 3 4 ⌝ }
-    ensures { λ r. ⌜ r ≡ tab 8 (λ i. sumFrom (at sums i) 4
-        (product (now (weights .entry)) (w + i * between) 3 (λ j. at (now (values .entry)) (from + j)))) ⌝ }
-{
-    let mut r = sums;
-    for j in 0..4 {
-        let more = add_whole(r, weights, w + j * 3, between, values[from + j]);
         r = more;
     }
     r
@@ -204,29 +183,8 @@ fn fours_next(
     r
 }
 
-// n fours of inputs, the weights of all three apart.
-fn fours_thirds(
-    sums: [f32; 8],
-    values: &[f32],
-    weights: &[f32],
-    from: usize,
-    w: usize,
-    between: usize,
-    n: usize,
-) -> [f32; 8]
-    requires { ⌜ OutputsFit (length (now values)) (length (now weights)) from w between 7 3 (n * 4) ⌝ }
-    ensures { λ r. ⌜ r ≡ tab 8 (λ i. sumFrom (at sums i) (n * 4)
-        (product (now (weights .entry)) (w + i * between) 3 (λ j. at (now (values .entry)) (from + j)))) ⌝ }
-{
-    let mut r = sums;
-    for q in 0..n {
-        let more = four_thirds(r, values, weights, from + q * 4, w + q * 12, between);
-        r = more;
-    }
-    r
-}
-
-// How many fours of inputs go by fours: all, where every lane is an output and the kernel is 1 or 3, the kernels of amplifier models; else none.
+// How many fours of inputs go by fours: all, where every lane is an output and the weights of two inputs are next to each other; else none. Where they
+// are apart, as with kernel 3, they have to be loaded one by one all the same, and four at a time gains nothing.
 fn fours(last: usize, step: usize, many: usize) -> usize
     ensures { λ r. ⌜ ByFours last step many r ⌝ }
 {
@@ -236,32 +194,7 @@ fn fours(last: usize, step: usize, many: usize) -> usize
     if step == 1 {
         return many / 4;
     }
-    if step == 3 {
-        return many / 4;
-    }
     0
-}
-
-// The first n fours of inputs.
-fn add_fours(
-    sums: [f32; 8],
-    values: &[f32],
-    weights: &[f32],
-    from: usize,
-    w: usize,
-    between: usize,
-    step: usize,
-    n: usize,
-) -> [f32; 8]
-    requires { ⌜ OutputsFit (length (now values)) (length (now weights)) from w between 7 step (n * 4) × (0 < n → OneOrThree step) ⌝ }
-    ensures { λ r. ⌜ r ≡ tab 8 (λ i. sumFrom (at sums i) (n * 4)
-        (product (now (weights .entry)) (w + i * between) step (λ j. at (now (values .entry)) (from + j)))) ⌝ }
-{
-    if step == 1 {
-        fours_next(sums, values, weights, from, w, between, n)
-    } else {
-        fours_thirds(sums, values, weights, from, w, between, n)
-    }
 }
 
 // Every input's product, in each of eight lanes: fours of inputs where that can be, the others one by one.
@@ -281,7 +214,7 @@ pub fn add_outputs(
         (product (now (weights .entry)) (w + min i last * between) step (λ j. at (now (values .entry)) (from + j)))) ⌝ }
 {
     let n = fours(last, step, many);
-    let mut r = add_fours(sums, values, weights, from, w, between, step, n);
+    let mut r = fours_next(sums, values, weights, from, w, between, n);
     for j in n * 4..many {
         let more = add_weights(r, weights, w + j * step, between, last, values[from + j]);
         r = more;
@@ -309,12 +242,36 @@ pub fn add_output(
     r
 }
 
+// Eight numbers into work, next to each other. As eight is written out, the compiler stores four at once.
+fn put_eight(work: &mut [f32], to: usize, sums: [f32; 8])
+    requires { ⌜ to + 8 ≤ length (now work) ⌝ }
+    ensures { λ _. ⌜ now (work .exit) ≡ rows to 1 1 8 (λ i t. at sums i) (now (work .entry)) ⌝ }
+{
+    for i in 0..8 {
+        work[to + i] = sums[i];
+    }
+}
+
 // The first n of eight numbers into work, stride apart.
-pub fn put(work: &mut [f32], to: usize, stride: usize, sums: [f32; 8], n: usize)
+fn put_apart(work: &mut [f32], to: usize, stride: usize, sums: [f32; 8], n: usize)
     requires { ⌜ (n ≤ 8) × ((i : ℕ) → i < n → to + i * stride < length (now work)) ⌝ }
     ensures { λ _. ⌜ now (work .exit) ≡ rows to stride 1 n (λ i t. at sums i) (now (work .entry)) ⌝ }
 {
     for i in 0..n {
         work[to + i * stride] = sums[i];
     }
+}
+
+// The same; all eight of a single column go at once.
+pub fn put(work: &mut [f32], to: usize, stride: usize, sums: [f32; 8], n: usize)
+    requires { ⌜ (n ≤ 8) × ((i : ℕ) → i < n → to + i * stride < length (now work)) ⌝ }
+    ensures { λ _. ⌜ now (work .exit) ≡ rows to stride 1 n (λ i t. at sums i) (now (work .entry)) ⌝ }
+{
+    if stride == 1 {
+        if n == 8 {
+            put_eight(work, to, sums);
+            return;
+        }
+    }
+    put_apart(work, to, stride, sums, n);
 }

@@ -31,22 +31,20 @@ abbrev μ-loop : tie.MeasureT-loop
 fours-requires : tie.Need-fours-requires Inv-loop μ-loop
 fours-requires c κs = search needs
 
-add-fours-requires : tie.Need-add-fours-requires Inv-loop μ-loop
-add-fours-requires c κs =
+fours-next-requires : tie.Need-fours-next-requires Inv-loop μ-loop
+fours-next-requires c κs =
     let f = c .fours .ensures in
-    let all = c .before .before .before .pre in (
-      record {
-        values-in = omega (arith, all .values-in, f .few);
-        weights-in = λ i j hi hj. all .weights-in i j (omega (arith, f .whole (omega arith), hi)) (omega (arith, f .few, hj));
-      },
-      f .kernel,
-    )
+    let all = c .before .before .before .pre in
+    record {
+      values-in = omega (arith, all .values-in, f .few);
+      weights-in = λ i j hi hj. rw (f .next (omega arith)) at (all .weights-in i j (omega (arith, f .whole (omega arith), hi)) (omega (arith, f .few, hj)));
+    }
 
 mul-j : tie.Need-mul-j Inv-loop μ-loop
 mul-j c = omega (arith, c .before .fours .ensures .few)
 
 loop-holds : tie.Need-loop-holds Inv-loop μ-loop
-loop-holds c = (c .before .fours .ensures .few, ap length (c .add-fours .ensures) ∙ length-tab 8 _, c .before .before .before .before .pre, λ start e. e)
+loop-holds c = (c .before .fours .ensures .few, ap length (c .fours-next .ensures) ∙ length-tab 8 _, c .before .before .before .before .pre, λ start e. e)
 
 mul-add-weights : tie.Need-mul-add-weights Inv-loop μ-loop
 mul-add-weights c =
@@ -103,8 +101,8 @@ returns c =
     let loop = c .before .loop in
     let f = c .before .before .before .fours .ensures in
     let e : loop .j ≡ args .many = omega (arith, f .few) in
-    rw e at (loop .inv .3 (at (args .sums)) (lanes-ext 8 _ _ _ _ _ (c .before .before .add-fours .ensures) (λ i j hi hj.
-    let all : min i (args .last) ≡ i = omega (arith, f .whole (omega arith), hi) in rw all)))
+    rw e at (loop .inv .3 (at (args .sums)) (lanes-ext 8 _ _ _ _ _ (c .before .before .fours-next .ensures) (λ i j hi hj.
+    let all : min i (args .last) ≡ i = omega (arith, f .whole (omega arith), hi) in rw (all, f .next (omega arith)))))
 
 pub add-outputs-spec : {M : Type 1} → statement M
 add-outputs-spec =
@@ -113,7 +111,7 @@ add-outputs-spec =
     Inv-loop
     μ-loop
     fours-requires
-    add-fours-requires
+    fours-next-requires
     mul-j
     loop-holds
     mul-add-weights
