@@ -20,9 +20,3 @@ pub record RowFits (nwork nweights to from stride n w step many : ℕ) : Type 0 
 pub record OutputsFit (nvalues nweights from w between last step many : ℕ) : Type 0 where
   pub values-in : from + many ≤ nvalues
   pub weights-in : (i j : ℕ) → i ≤ last → j < many → w + i * between + j * step < nweights
-
--- r fours of the inputs, where there are any, can be summed by fours: all eight lanes are outputs, and the weights of two inputs are next to each other
-pub record ByFours (last step many r : ℕ) : Type 0 where
-  pub few : r * 4 ≤ many
-  pub whole : 0 < r → 7 ≤ last
-  pub next : 0 < r → step ≡ 1

@@ -7,7 +7,7 @@ ghost use lib.Ieee.{add, mul, binary32};
 ghost use Rattle.lists.specs.Tab.{at, tab, fill, rows};
 ghost use Rattle.single.specs.Sum.{sumFrom};
 ghost use Rattle.sums.specs.Product.{product};
-ghost use Rattle.sums.specs.Fits.{InputsFit, RowFits, OutputsFit, ByFours};
+ghost use Rattle.sums.specs.Fits.{InputsFit, RowFits, OutputsFit};
 
 // Sixteen numbers of work.
 fn load(work: &[f32], from: usize) -> [f32; 16]
@@ -183,21 +183,55 @@ fn fours_next(
     r
 }
 
-// How many fours of inputs go by fours: all, where every lane is an output and the weights of two inputs are next to each other; else none. Where they
-// are apart, as with kernel 3, they have to be loaded one by one all the same, and four at a time gains nothing.
-fn fours(last: usize, step: usize, many: usize) -> usize
-    ensures { λ r. ⌜ ByFours last step many r ⌝ }
+// Every input's product where all eight lanes are outputs and the weights of two inputs are next to each other: fours of inputs, then those left.
+fn add_next(
+    sums: [f32; 8],
+    values: &[f32],
+    weights: &[f32],
+    from: usize,
+    w: usize,
+    between: usize,
+    many: usize,
+) -> [f32; 8]
+    requires { ⌜ OutputsFit (length (now values)) (length (now weights)) from w between 7 1 many ⌝ }
+    ensures { λ r. ⌜ r ≡ tab 8 (λ i. sumFrom (at sums i) many
+        (product (now (weights .entry)) (w + i * between) 1 (λ j. at (now (values .entry)) (from + j)))) ⌝ }
 {
-    if last < 7 {
-        return 0;
+    let n = many / 4;
+    let mut r = fours_next(sums, values, weights, from, w, between, n);
+    for j in n * 4..many {
+        let more = add_whole(r, weights, w + j, between, values[from + j]);
+        r = more;
     }
-    if step == 1 {
-        return many / 4;
-    }
-    0
+    r
 }
 
-// Every input's product, in each of eight lanes: fours of inputs where that can be, the others one by one.
+// Every input's product, one by one, in each of eight lanes.
+fn add_each(
+    sums: [f32; 8],
+    values: &[f32],
+    weights: &[f32],
+    from: usize,
+    w: usize,
+    between: usize,
+    last: usize,
+    step: usize,
+    many: usize,
+) -> [f32; 8]
+    requires { ⌜ OutputsFit (length (now values)) (length (now weights)) from w between last step many ⌝ }
+    ensures { λ r. ⌜ r ≡ tab 8 (λ i. sumFrom (at sums i) many
+        (product (now (weights .entry)) (w + min i last * between) step (λ j. at (now (values .entry)) (from + j)))) ⌝ }
+{
+    let mut r = sums;
+    for j in 0..many {
+        let more = add_weights(r, weights, w + j * step, between, last, values[from + j]);
+        r = more;
+    }
+    r
+}
+
+// Every input's product, in each of eight lanes. Weights that are apart, as with kernel 3, have to be loaded one by one in any case: four inputs at a
+// time would gain nothing there.
 pub fn add_outputs(
     sums: [f32; 8],
     values: &[f32],
@@ -213,13 +247,12 @@ pub fn add_outputs(
     ensures { λ r. ⌜ r ≡ tab 8 (λ i. sumFrom (at sums i) many
         (product (now (weights .entry)) (w + min i last * between) step (λ j. at (now (values .entry)) (from + j)))) ⌝ }
 {
-    let n = fours(last, step, many);
-    let mut r = fours_next(sums, values, weights, from, w, between, n);
-    for j in n * 4..many {
-        let more = add_weights(r, weights, w + j * step, between, last, values[from + j]);
-        r = more;
+    if step == 1 {
+        if 7 <= last {
+            return add_next(sums, values, weights, from, w, between, many);
+        }
     }
-    r
+    add_each(sums, values, weights, from, w, between, last, step, many)
 }
 
 // Every input's product, in one output.
