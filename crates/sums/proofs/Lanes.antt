@@ -75,3 +75,11 @@ outputs-part d k f le = record {
   values-in = omega (arith, f .values-in);
   weights-in = λ i j hi hj. omega (arith, f .weights-in i (d + j) hi (omega arith));
 }
+
+-- where all eight lanes are outputs, the first eight outputs lie where all of them do
+pub outputs-whole : {nvalues nweights from w between last step many : ℕ} (literal : ℕ) → OutputsFit nvalues nweights from w between last step many
+    → 7 ≤ last → step ≡ literal → OutputsFit nvalues nweights from w between 7 literal many
+outputs-whole literal f le e = record {
+  values-in = f .values-in;
+  weights-in = λ i j hi hj. rw e at (f .weights-in i j (omega arith) hj);
+}
