@@ -29,8 +29,20 @@ pub fn steps_back(sh: Shape, k: usize) -> usize
     (sh.kernel - 1 - k) * sh.dilation
 }
 
-// What the sums of eight lanes start at.
-fn start_eight(weights: &[f32], biased: bool, from: usize, last: usize) -> [f32; 8]
+// Eight biases next to each other. As eight is written out, the compiler loads four at once.
+fn eight_biases(weights: &[f32], from: usize) -> [f32; 8]
+    requires { ⌜ from + 8 ≤ length (now weights) ⌝ }
+    ensures { λ r. ⌜ r ≡ tab 8 (λ i. at (now (weights .entry)) (from + i)) ⌝ }
+{
+    let mut r = [0.0f32; 8];
+    for i in 0..8 {
+        r[i] = weights[from + i];
+    }
+    r
+}
+
+// What the sums of eight lanes start at, lane by lane.
+fn start_lanes(weights: &[f32], biased: bool, from: usize, last: usize) -> [f32; 8]
     requires { ⌜ (from + last < 4294967296) × (biased ≡ true → from + last < length (now weights)) ⌝ }
     ensures { λ r. ⌜ r ≡ tab 8 (λ i. cond biased (at (now (weights .entry)) (from + min i last)) (ofBits binary32 0)) ⌝ }
 {
@@ -41,6 +53,20 @@ fn start_eight(weights: &[f32], biased: bool, from: usize, last: usize) -> [f32;
         r[i] = b;
     }
     r
+}
+
+// What the sums of eight lanes start at; the biases of eight outputs are loaded at once.
+fn start_eight(weights: &[f32], biased: bool, from: usize, last: usize) -> [f32; 8]
+    requires { ⌜ (from + last < 4294967296) × (biased ≡ true → from + last < length (now weights)) ⌝ }
+    ensures { λ r. ⌜ r ≡ tab 8 (λ i. cond biased (at (now (weights .entry)) (from + min i last)) (ofBits binary32 0)) ⌝ }
+{
+    if last == 7 {
+        if biased {
+            return eight_biases(weights, from);
+        }
+        return [0.0f32; 8];
+    }
+    start_lanes(weights, biased, from, last)
 }
 
 // All taps of the outputs o .. o + last, which are of group g, onto the sums of eight lanes. Read out of the history, where the column was pushed.

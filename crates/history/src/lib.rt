@@ -16,8 +16,18 @@ fn least(a: usize, b: usize) -> usize
     if a < b { a } else { b }
 }
 
+// One column of work, its channels next to each other, into the history from base on. As they are, the compiler copies four at once.
+fn store_next(history: &mut [f32], work: &[f32], base: usize, from: usize, ins: usize)
+    requires { ⌜ (base + ins ≤ length (now history)) × ((j : ℕ) → j < ins → from + j < length (now work)) ⌝ }
+    ensures { λ _. ⌜ now (history .exit) ≡ fill base ins (λ j. at (now (work .entry)) (from + j)) (now (history .entry)) ⌝ }
+{
+    for j in 0..ins {
+        history[base + j] = work[from + j];
+    }
+}
+
 // One column of work, its channels stride apart, into the history from base on.
-fn store_column(
+fn store_apart(
     history: &mut [f32],
     work: &[f32],
     base: usize,
@@ -30,6 +40,25 @@ fn store_column(
 {
     for j in 0..ins {
         history[base + j] = work[from + j * stride];
+    }
+}
+
+// The same; those of a single column are next to each other.
+fn store_column(
+    history: &mut [f32],
+    work: &[f32],
+    base: usize,
+    from: usize,
+    stride: usize,
+    ins: usize,
+)
+    requires { ⌜ (base + ins ≤ length (now history)) × ((j : ℕ) → j < ins → from + j * stride < length (now work)) ⌝ }
+    ensures { λ _. ⌜ now (history .exit) ≡ fill base ins (λ j. at (now (work .entry)) (from + j * stride)) (now (history .entry)) ⌝ }
+{
+    if stride == 1 {
+        store_next(history, work, base, from, ins);
+    } else {
+        store_apart(history, work, base, from, stride, ins);
     }
 }
 

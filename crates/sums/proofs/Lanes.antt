@@ -1,7 +1,7 @@
 -- Sums side by side, for any number of them: one more product in each; and a row of them, sixteen at a time. Assumes nothing.
 use mathlib.Core.Path.{_≡_, sym, _∙_}
 use mathlib.Core.List.{List}
-use Prim.Native.Nat.{ℕ, _+_, _*_, _/_, _<_}
+use Prim.Native.Nat.{ℕ, _+_, _*_, _/_, _≤_, _<_}
 use native.Mathlib.Omega.{arith}
 use lib.ListN.{length}
 use lib.Ieee.{Float, nan, binary32, add}
@@ -9,9 +9,9 @@ use Rattle.lists.specs.Tab.{at, tab, fill}
 use Rattle.lists.proofs.Tab.{at-tab, is-tab, tab-ext}
 use Rattle.lists.proofs.Fill.{fill-ext, fill-join, fill-apart}
 use Rattle.single.specs.Sum.{sumFrom}
-use Rattle.single.proofs.Sum.{sum-none, sum-more, sum-ext}
+use Rattle.single.proofs.Sum.{sum-none, sum-more, sum-ext, sum-join}
 use Rattle.sums.specs.Product.{product}
-use Rattle.sums.specs.Fits.{InputsFit, RowFits}
+use Rattle.sums.specs.Fits.{InputsFit, RowFits, OutputsFit}
 
 pub lanes-none : (n : ℕ) (sums : List Float) (term : ℕ → ℕ → Float) → length sums ≡ n → sums ≡ tab n (λ i. sumFrom (at sums i) 0 (term i))
 lanes-none n sums term e = is-tab nan sums n _ e (λ i h. sym (sum-none (at sums i) (term i)))
@@ -55,3 +55,31 @@ module _ (weights old work sums more last : List Float) (to from stride n w step
       let next : (i + 1) * 16 ≡ i * 16 + 16 = omega arith in
       l ∙ fill-ext (to + i * 16) 16 (at more) (λ k. row (i * 16 + k)) work same
       ∙ rw (e, next) (fill-join to (i * 16) 16 row old)
+
+-- .. and a law for each of the two ways that lanes are summed in stretches: the same products said otherwise, and some products after others
+pub lanes-ext : (n k : ℕ) (start : ℕ → Float) (f g : ℕ → ℕ → Float) (sums : List Float) → sums ≡ tab n (λ i. sumFrom (start i) k (f i))
+    → ((i j : ℕ) → i < n → j < k → f i j ≡ g i j) → sums ≡ tab n (λ i. sumFrom (start i) k (g i))
+lanes-ext n k start f g sums e h = e ∙ tab-ext nan n _ _ (λ i lt. sum-ext (start i) k (f i) (g i) (λ j hj. h i j lt hj))
+
+pub lanes-join : (n d k : ℕ) (start : ℕ → Float) (f g : ℕ → ℕ → Float) (sums last : List Float) → sums ≡ tab n (λ i. sumFrom (start i) d (f i))
+    → last ≡ tab n (λ i. sumFrom (at sums i) k (g i)) → ((i j : ℕ) → i < n → j < k → g i j ≡ f i (d + j))
+    → last ≡ tab n (λ i. sumFrom (start i) (d + k) (f i))
+lanes-join n d k start f g sums last e l h =
+    lanes-ext n k (at sums) g (λ i j. f i (d + j)) last l h
+    ∙ tab-ext nan n _ _ (λ i lt. rw (e, at-tab nan n _ i lt) (sum-join (start i) d k (f i)))
+
+-- k inputs from input d on lie where all of them do
+pub outputs-part : {nvalues nweights from w between last step many : ℕ} (d k : ℕ) → OutputsFit nvalues nweights from w between last step many
+    → d + k ≤ many → OutputsFit nvalues nweights (from + d) (w + d * step) between last step k
+outputs-part d k f le = record {
+  values-in = omega (arith, f .values-in);
+  weights-in = λ i j hi hj. omega (arith, f .weights-in i (d + j) hi (omega arith));
+}
+
+-- where all eight lanes are outputs, the first eight outputs lie where all of them do
+pub outputs-whole : {nvalues nweights from w between last step many : ℕ} (literal : ℕ) → OutputsFit nvalues nweights from w between last step many
+    → 7 ≤ last → step ≡ literal → OutputsFit nvalues nweights from w between 7 literal many
+outputs-whole literal f le e = record {
+  values-in = f .values-in;
+  weights-in = λ i j hi hj. rw e at (f .weights-in i j (omega arith) hj);
+}

@@ -128,8 +128,152 @@ fn add_weights(
     r
 }
 
-// Every input's product, in each of eight lanes.
-pub fn add_outputs(
+// The same where all eight lanes are outputs: no lane has to be kept within them.
+fn add_whole(sums: [f32; 8], weights: &[f32], w: usize, between: usize, x: f32) -> [f32; 8]
+    requires { ⌜ ((i : ℕ) → i ≤ 7 → w + i * between < length (now weights)) ⌝ }
+    ensures { λ r. ⌜ r ≡ tab 8 (λ i. add binary32 (at sums i) (mul binary32 (at (now (weights .entry)) (w + i * between)) x)) ⌝ }
+{
+    let mut r = sums;
+    for i in 0..8 {
+        r[i] = r[i] + weights[w + i * between] * x;
+    }
+    r
+}
+
+// Four inputs, their weights next to each other (kernel 1). As four and the step are written out, the compiler loads four weights of an output at once.
+fn four_next(
+    sums: [f32; 8],
+    values: &[f32],
+    weights: &[f32],
+    from: usize,
+    w: usize,
+    between: usize,
+) -> [f32; 8]
+    requires { ⌜ OutputsFit (length (now values)) (length (now weights)) from w between 7 1 4 ⌝ }
+    ensures { λ r. ⌜ r ≡ tab 8 (λ i. sumFrom (at sums i) 4
+        (product (now (weights .entry)) (w + i * between) 1 (λ j. at (now (values .entry)) (from + j)))) ⌝ }
+{
+    let mut r = sums;
+    for j in 0..4 {
+        let more = add_whole(r, weights, w + j, between, values[from + j]);
+        r = more;
+    }
+    r
+}
+
+// Four inputs, their weights three apart (kernel 3).
+fn four_thirds(
+    sums: [f32; 8],
+    values: &[f32],
+    weights: &[f32],
+    from: usize,
+    w: usize,
+    between: usize,
+) -> [f32; 8]
+    requires { ⌜ OutputsFit (length (now values)) (length (now weights)) from w between 7 3 4 ⌝ }
+    ensures { λ r. ⌜ r ≡ tab 8 (λ i. sumFrom (at sums i) 4
+        (product (now (weights .entry)) (w + i * between) 3 (λ j. at (now (values .entry)) (from + j)))) ⌝ }
+{
+    let mut r = sums;
+    for j in 0..4 {
+        let more = add_whole(r, weights, w + j * 3, between, values[from + j]);
+        r = more;
+    }
+    r
+}
+
+// n fours of inputs, the weights of all next to each other.
+fn fours_next(
+    sums: [f32; 8],
+    values: &[f32],
+    weights: &[f32],
+    from: usize,
+    w: usize,
+    between: usize,
+    n: usize,
+) -> [f32; 8]
+    requires { ⌜ OutputsFit (length (now values)) (length (now weights)) from w between 7 1 (n * 4) ⌝ }
+    ensures { λ r. ⌜ r ≡ tab 8 (λ i. sumFrom (at sums i) (n * 4)
+        (product (now (weights .entry)) (w + i * between) 1 (λ j. at (now (values .entry)) (from + j)))) ⌝ }
+{
+    let mut r = sums;
+    for q in 0..n {
+        let more = four_next(r, values, weights, from + q * 4, w + q * 4, between);
+        r = more;
+    }
+    r
+}
+
+// n fours of inputs, the weights of all three apart.
+fn fours_thirds(
+    sums: [f32; 8],
+    values: &[f32],
+    weights: &[f32],
+    from: usize,
+    w: usize,
+    between: usize,
+    n: usize,
+) -> [f32; 8]
+    requires { ⌜ OutputsFit (length (now values)) (length (now weights)) from w between 7 3 (n * 4) ⌝ }
+    ensures { λ r. ⌜ r ≡ tab 8 (λ i. sumFrom (at sums i) (n * 4)
+        (product (now (weights .entry)) (w + i * between) 3 (λ j. at (now (values .entry)) (from + j)))) ⌝ }
+{
+    let mut r = sums;
+    for q in 0..n {
+        let more = four_thirds(r, values, weights, from + q * 4, w + q * 12, between);
+        r = more;
+    }
+    r
+}
+
+// Every input's product where all eight lanes are outputs and the weights of two inputs are next to each other: fours of inputs, then those left.
+fn add_next(
+    sums: [f32; 8],
+    values: &[f32],
+    weights: &[f32],
+    from: usize,
+    w: usize,
+    between: usize,
+    many: usize,
+) -> [f32; 8]
+    requires { ⌜ OutputsFit (length (now values)) (length (now weights)) from w between 7 1 many ⌝ }
+    ensures { λ r. ⌜ r ≡ tab 8 (λ i. sumFrom (at sums i) many
+        (product (now (weights .entry)) (w + i * between) 1 (λ j. at (now (values .entry)) (from + j)))) ⌝ }
+{
+    let n = many / 4;
+    let mut r = fours_next(sums, values, weights, from, w, between, n);
+    for j in n * 4..many {
+        let more = add_whole(r, weights, w + j, between, values[from + j]);
+        r = more;
+    }
+    r
+}
+
+// The same where the weights of two inputs are three apart.
+fn add_thirds(
+    sums: [f32; 8],
+    values: &[f32],
+    weights: &[f32],
+    from: usize,
+    w: usize,
+    between: usize,
+    many: usize,
+) -> [f32; 8]
+    requires { ⌜ OutputsFit (length (now values)) (length (now weights)) from w between 7 3 many ⌝ }
+    ensures { λ r. ⌜ r ≡ tab 8 (λ i. sumFrom (at sums i) many
+        (product (now (weights .entry)) (w + i * between) 3 (λ j. at (now (values .entry)) (from + j)))) ⌝ }
+{
+    let n = many / 4;
+    let mut r = fours_thirds(sums, values, weights, from, w, between, n);
+    for j in n * 4..many {
+        let more = add_whole(r, weights, w + j * 3, between, values[from + j]);
+        r = more;
+    }
+    r
+}
+
+// Every input's product, one by one, in each of eight lanes.
+fn add_each(
     sums: [f32; 8],
     values: &[f32],
     weights: &[f32],
@@ -152,6 +296,33 @@ pub fn add_outputs(
     r
 }
 
+// Every input's product, in each of eight lanes. Kernel 1 and kernel 3, those of amplifier models, have ways of their own.
+pub fn add_outputs(
+    sums: [f32; 8],
+    values: &[f32],
+    weights: &[f32],
+    from: usize,
+    w: usize,
+    between: usize,
+    last: usize,
+    step: usize,
+    many: usize,
+) -> [f32; 8]
+    requires { ⌜ OutputsFit (length (now values)) (length (now weights)) from w between last step many ⌝ }
+    ensures { λ r. ⌜ r ≡ tab 8 (λ i. sumFrom (at sums i) many
+        (product (now (weights .entry)) (w + min i last * between) step (λ j. at (now (values .entry)) (from + j)))) ⌝ }
+{
+    if 7 <= last {
+        if step == 1 {
+            return add_next(sums, values, weights, from, w, between, many);
+        }
+        if step == 3 {
+            return add_thirds(sums, values, weights, from, w, between, many);
+        }
+    }
+    add_each(sums, values, weights, from, w, between, last, step, many)
+}
+
 // Every input's product, in one output.
 pub fn add_output(
     sum: f32,
@@ -172,12 +343,36 @@ pub fn add_output(
     r
 }
 
+// Eight numbers into work, next to each other. As eight is written out, the compiler stores four at once.
+fn put_eight(work: &mut [f32], to: usize, sums: [f32; 8])
+    requires { ⌜ to + 8 ≤ length (now work) ⌝ }
+    ensures { λ _. ⌜ now (work .exit) ≡ rows to 1 1 8 (λ i t. at sums i) (now (work .entry)) ⌝ }
+{
+    for i in 0..8 {
+        work[to + i] = sums[i];
+    }
+}
+
 // The first n of eight numbers into work, stride apart.
-pub fn put(work: &mut [f32], to: usize, stride: usize, sums: [f32; 8], n: usize)
+fn put_apart(work: &mut [f32], to: usize, stride: usize, sums: [f32; 8], n: usize)
     requires { ⌜ (n ≤ 8) × ((i : ℕ) → i < n → to + i * stride < length (now work)) ⌝ }
     ensures { λ _. ⌜ now (work .exit) ≡ rows to stride 1 n (λ i t. at sums i) (now (work .entry)) ⌝ }
 {
     for i in 0..n {
         work[to + i * stride] = sums[i];
     }
+}
+
+// The same; all eight of a single column go at once.
+pub fn put(work: &mut [f32], to: usize, stride: usize, sums: [f32; 8], n: usize)
+    requires { ⌜ (n ≤ 8) × ((i : ℕ) → i < n → to + i * stride < length (now work)) ⌝ }
+    ensures { λ _. ⌜ now (work .exit) ≡ rows to stride 1 n (λ i t. at sums i) (now (work .entry)) ⌝ }
+{
+    if stride == 1 {
+        if n == 8 {
+            put_eight(work, to, sums);
+            return;
+        }
+    }
+    put_apart(work, to, stride, sums, n);
 }

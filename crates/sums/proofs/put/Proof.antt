@@ -1,84 +1,29 @@
--- `sums::put` meets its contract. One store more is one row of one place more. Assumes nothing.
-use mathlib.Core.Path.{_≡_, refl}
-use Prim.Native.Nat.{_-_, _≤_}
+-- `sums::put` meets its contract. All eight next to each other are the eight that are asked for. Assumes nothing.
 use native.Mathlib.Omega.{arith}
-use lib.ListN.{length}
 use borrow.Author.Needs.{needs}
-use Rattle.lists.proofs.Rows.{rows-none, rows-cell}
-use Rattle.lists.specs.Tab.{at, rows}
 use Rattle.sums.proofs.put.Statement.{statement}
 use Rattle.sums.proofs.put.Tie as tie
 
-abbrev Inv-loop : tie.InvT-loop
-Inv-loop work₀ to stride n sums i₀ work i =
-    (i ≤ n) × (length work ≡ length work₀) × (work ≡ rows to stride 1 i (λ i t. at sums i) work₀)
+put-eight-requires : tie.Need-put-eight-requires
+put-eight-requires c κs =
+    omega (arith, rw (c .before .before .if1 .taken) at (c .before .before .before .before .pre .1 7 (omega (arith, c .before .if2 .taken))))
 
-abbrev μ-loop : tie.MeasureT-loop
-μ-loop work₀ to stride n sums i₀ work i = n - i
-
-loop-holds : tie.Need-loop-holds Inv-loop μ-loop
-loop-holds c = (search needs, search needs, rows-none _ _ _ _ _)
-
-mul-work : tie.Need-mul-work Inv-loop μ-loop
-mul-work c =
-    let loop = c .before .loop in
-    omega (arith, c .before .before .pre .1 (loop .i) (c .loop-test .taken), loop .inv .1)
-
-array-read-work : tie.Need-array-read-work Inv-loop μ-loop
-array-read-work c = omega (arith, c .before .before .pre .0, c .loop-test .taken)
-
-mul-work-2 : tie.Need-mul-work-2 Inv-loop μ-loop
-mul-work-2 c =
-    let loop = c .before .loop in
-    omega (arith, c .before .before .pre .1 (loop .i) (c .loop-test .taken), loop .inv .1)
-
-add-work : tie.Need-add-work Inv-loop μ-loop
-add-work c =
-    let loop = c .before .loop in
-    omega (arith, c .before .before .pre .1 (loop .i) (c .loop-test .taken), loop .inv .1)
-
-mul-work-3 : tie.Need-mul-work-3 Inv-loop μ-loop
-mul-work-3 c =
-    let loop = c .before .loop in
-    omega (arith, c .before .before .pre .1 (loop .i) (c .loop-test .taken), loop .inv .1)
-
-slice-write-work : tie.Need-slice-write-work Inv-loop μ-loop
-slice-write-work c =
-    let loop = c .before .loop in
-    omega (arith, c .before .before .pre .1 (loop .i) (c .loop-test .taken), loop .inv .1)
-
-add-i : tie.Need-add-i Inv-loop μ-loop
-add-i c = search needs
-
-loop-less : tie.Need-loop-less Inv-loop μ-loop
-loop-less c = search needs
-
-loop-again : tie.Need-loop-again Inv-loop μ-loop
-loop-again c = (search needs, search needs, rows-cell _ _ _ _ _ _ _ (c .before .loop .inv .2) refl)
-
-same-length : tie.Need-same-length Inv-loop μ-loop
+same-length : tie.Need-same-length
 same-length c = search needs
 
-returns : tie.Need-returns Inv-loop μ-loop
-returns c =
-    let loop = c .before .loop in
-    let e : loop .i ≡ c .before .before .args .n = omega arith in rw e at (loop .inv .2)
+returns : tie.Need-returns
+returns c = rw (c .before .before .before .before .before .if1 .taken, c .before .before .before .before .if2 .taken) (c .before .before .put-eight .ensures)
+
+put-apart-requires : tie.Need-put-apart-requires
+put-apart-requires c κs = search needs
+
+same-length-2 : tie.Need-same-length-2
+same-length-2 c = search needs
+
+returns-2 : tie.Need-returns-2
+returns-2 c = search needs
 
 pub put-spec : {M : Type 1} → statement M
 put-spec =
     tie.close
-    (tie.spec
-    Inv-loop
-    μ-loop
-    loop-holds
-    mul-work
-    array-read-work
-    mul-work-2
-    add-work
-    mul-work-3
-    slice-write-work
-    add-i
-    loop-less
-    loop-again
-    same-length
-    returns)
+    (tie.spec put-eight-requires same-length returns put-apart-requires same-length-2 returns-2)
