@@ -8,6 +8,7 @@ ghost use Rattle.layer.specs.Pieces.{Fronted, Mixed, GatedPast, Headed, 
 use crate::sites::convolve;
 use crate::sites::modulate;
 use crate::sites::modulated;
+use crate::sites::plays;
 use crate::slots::Slots;
 use description::parts::doubled;
 use description::records::ArrayRecord;
@@ -35,23 +36,28 @@ pub fn front(
     let input = 2 * size;
     let spare = 5 * size;
     let to = 7 * size;
-    let from = modulated(
-        work,
-        hist,
-        pos,
-        weights,
-        a,
-        r,
-        slots,
-        0,
-        input,
-        spare,
-        channels,
-        size,
-        m,
-    );
+    let mut from = input;
+    if plays(r, 0) {
+        from = modulated(
+            work,
+            hist,
+            pos,
+            weights,
+            a,
+            r,
+            slots,
+            0,
+            input,
+            spare,
+            channels,
+            size,
+            m,
+        );
+    }
     convolve(work, hist, pos, weights, a, r, slots, 0, from, to, size, m);
-    modulate(work, hist, pos, weights, a, r, slots, 1, to, mid, size, m);
+    if plays(r, 1) {
+        modulate(work, hist, pos, weights, a, r, slots, 1, to, mid, size, m);
+    }
 }
 
 // Mixin input = site 2 of the condition or the condition; mixin; site 3.
@@ -76,23 +82,28 @@ pub fn mixer(
     let condition = 3 * size;
     let spare = 5 * size;
     let to = 8 * size;
-    let from = modulated(
-        work,
-        hist,
-        pos,
-        weights,
-        a,
-        r,
-        slots,
-        2,
-        condition,
-        spare,
-        width,
-        size,
-        m,
-    );
+    let mut from = condition;
+    if plays(r, 2) {
+        from = modulated(
+            work,
+            hist,
+            pos,
+            weights,
+            a,
+            r,
+            slots,
+            2,
+            condition,
+            spare,
+            width,
+            size,
+            m,
+        );
+    }
     convolve(work, hist, pos, weights, a, r, slots, 1, from, to, size, m);
-    modulate(work, hist, pos, weights, a, r, slots, 3, to, mid, size, m);
+    if plays(r, 3) {
+        modulate(work, hist, pos, weights, a, r, slots, 3, to, mid, size, m);
+    }
 }
 
 // z = conv + mixin; site 4; gating; site 5.
@@ -118,12 +129,16 @@ pub fn gate(
     let z = 7 * size;
     let mixed = 8 * size;
     carry::add_to(work, z, mixed, mid * m);
-    modulate(work, hist, pos, weights, a, r, slots, 4, z, mid, size, m);
+    if plays(r, 4) {
+        modulate(work, hist, pos, weights, a, r, slots, 4, z, mid, size, m);
+    }
     let mode = r.mode;
     let primary = r.primary;
     let secondary = r.secondary;
     gating::gating(work, to, z, width * m, mode, primary, secondary);
-    modulate(work, hist, pos, weights, a, r, slots, 5, to, width, size, m);
+    if plays(r, 5) {
+        modulate(work, hist, pos, weights, a, r, slots, 5, to, width, size, m);
+    }
 }
 
 // Head1x1 then site 7, or the gated values; add to the head accumulator, accumulator first.
@@ -153,7 +168,9 @@ pub fn head(
     }
     let to = 12 * size;
     convolve(work, hist, pos, weights, a, r, slots, 3, from, to, size, m);
-    modulate(work, hist, pos, weights, a, r, slots, 7, to, width, size, m);
+    if plays(r, 7) {
+        modulate(work, hist, pos, weights, a, r, slots, 7, to, width, size, m);
+    }
     carry::add_to(work, accumulator, to, width * m);
 }
 
@@ -182,7 +199,9 @@ pub fn residual(
     let from = 6 * size;
     let to = 13 * size;
     convolve(work, hist, pos, weights, a, r, slots, 2, from, to, size, m);
-    modulate(work, hist, pos, weights, a, r, slots, 6, to, width, size, m);
+    if plays(r, 6) {
+        modulate(work, hist, pos, weights, a, r, slots, 6, to, width, size, m);
+    }
     carry::add_to(work, to, input, width * m);
     to
 }

@@ -37,8 +37,8 @@ fn blended(mode: Mode) -> bool
     }
 }
 
-// Whether site i is played. It is asked before anything is made ready for the site: most are absent, and a call is often one column.
-fn plays(r: LayerRecord, i: usize) -> bool
+// Whether site i is played. A piece asks it before it calls the site: most are absent, a call is often one column, and what a site is handed is copied.
+pub fn plays(r: LayerRecord, i: usize) -> bool
     requires { ⌜ i < 8 ⌝ }
     ensures { λ b. ⌜ ((a : ArrayRecord) → Behind a r i → b ≡ isThere (appliedSite a r i)) ⌝ }
 {
@@ -104,8 +104,8 @@ pub fn convolve(
     );
 }
 
-// FiLM site i in place: w channels at `to`, whether it is played or not. Regions 9 to 11 are used up.
-fn modulate_by(
+// FiLM site i in place: w channels at `to`. Regions 9 to 11 are used up.
+pub fn modulate(
     work: &mut [f32],
     histories: &mut [f32],
     positions: &mut [u32],
@@ -150,47 +150,8 @@ fn modulate_by(
     );
 }
 
-// FiLM site i in place: w channels at `to`. Regions 9 to 11 are used up.
-pub fn modulate(
-    work: &mut [f32],
-    histories: &mut [f32],
-    positions: &mut [u32],
-    weights: &[f32],
-    a: ArrayRecord,
-    r: LayerRecord,
-    slots: Slots,
-    i: usize,
-    to: usize,
-    w: usize,
-    size: usize,
-    m: usize,
-)
-    requires { ⌜ LayerFits a r (slots .conv) size m (length (now work)) (now histories) (now positions) (now weights) ⌝ }
-    requires { ⌜ SlotsOf a r slots ⌝ }
-    requires { ⌜ Behind a r i × Room size to × (w ≡ siteWidth a r i) ⌝ }
-    ensures { λ _. ⌜ SitePast a r (slots .conv) (now (weights .entry)) size m (now (work .entry)) (now (histories .entry)) (now (positions .entry))
-        (now (work .exit)) (now (histories .exit)) (now (positions .exit)) i to to to ⌝ }
-{
-    if plays(r, i) {
-        modulate_by(
-            work,
-            histories,
-            positions,
-            weights,
-            a,
-            r,
-            slots,
-            i,
-            to,
-            w,
-            size,
-            m,
-        );
-    }
-}
-
-// FiLM site i from a region to another: w channels, whether it is played or not. It answers where they are.
-fn modulated_by(
+// FiLM site i from a region to another: w channels. It answers where they are.
+pub fn modulated(
     work: &mut [f32],
     histories: &mut [f32],
     positions: &mut [u32],
@@ -235,46 +196,4 @@ fn modulated_by(
         width,
         m,
     )
-}
-
-// FiLM site i from a region to another: w channels. It answers where they are.
-pub fn modulated(
-    work: &mut [f32],
-    histories: &mut [f32],
-    positions: &mut [u32],
-    weights: &[f32],
-    a: ArrayRecord,
-    r: LayerRecord,
-    slots: Slots,
-    i: usize,
-    from: usize,
-    to: usize,
-    w: usize,
-    size: usize,
-    m: usize,
-) -> usize
-    requires { ⌜ LayerFits a r (slots .conv) size m (length (now work)) (now histories) (now positions) (now weights) ⌝ }
-    requires { ⌜ SlotsOf a r slots ⌝ }
-    requires { ⌜ Behind a r i × Room size to × (w ≡ siteWidth a r i) × (from + size ≤ to) × (to ≤ 9 * size) ⌝ }
-    ensures { λ result. ⌜ SitePast a r (slots .conv) (now (weights .entry)) size m (now (work .entry)) (now (histories .entry)) (now (positions .entry))
-        (now (work .exit)) (now (histories .exit)) (now (positions .exit)) i from to result ⌝ }
-{
-    if plays(r, i) {
-        return modulated_by(
-            work,
-            histories,
-            positions,
-            weights,
-            a,
-            r,
-            slots,
-            i,
-            from,
-            to,
-            w,
-            size,
-            m,
-        );
-    }
-    from
 }

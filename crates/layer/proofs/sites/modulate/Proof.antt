@@ -1,16 +1,41 @@
--- A site that is not played leaves everything as it was (site-left-out); one that is does what `modulate_by` does.
-use mathlib.Core.Path.{sym, _∙_}
+-- What the site asks and does is site_in's, at the layer's places.
+use Rattle.layer.proofs.Past.{site-past}
+use Rattle.layer.proofs.Asks.{site-fits}
+use mathlib.Core.Path.{_∙_}
+use native.Mathlib.Omega.{arith}
 use borrow.Author.Needs.{needs}
-use Rattle.layer.proofs.Asks.{not-played}
-use Rattle.layer.proofs.Past.{site-left-out}
 use Rattle.layer.proofs.sites.modulate.Statement.{statement}
 use Rattle.layer.proofs.sites.modulate.Tie as tie
 
-plays-requires : tie.Need-plays-requires
-plays-requires c κs = c .before .before .before .before .pre .1 .1 .0 .site-in
+applied-site-requires : tie.Need-applied-site-requires
+applied-site-requires c κs = search needs
 
-modulate-by-requires : tie.Need-modulate-by-requires
-modulate-by-requires c κs = c .before .before .before .before .before .before .before .before .before .pre
+shifted-requires : tie.Need-shifted-requires
+shifted-requires c κs = search needs
+
+add-place : tie.Need-add-place
+add-place c = search needs
+
+place-requires : tie.Need-place-requires
+place-requires c κs = search needs
+
+mul-condition : tie.Need-mul-condition
+mul-condition c = search needs
+
+mul-s : tie.Need-mul-s
+mul-s c = search needs
+
+mul-rows : tie.Need-mul-rows
+mul-rows c = search needs
+
+site-in-requires : tie.Need-site-in-requires
+site-in-requires c κs =
+    let p = c .before .before .before .before .before .applied-site .ensures in
+    let b = c .before .before .before .before .shifted .ensures in
+    let e = c .before .before .before .place .ensures ∙ c .before .before .before .before .before .before .before .before .before .before .pre .1 .0 .is _ (omega (arith, c .before .before .before .before .before .before .before .before .before .before .pre .1 .1 .0 .site-in)) in
+    let w = c .before .before .before .before .before .before .before .before .before .before .pre .1 .1 .2 in
+    let room = c .before .before .before .before .before .before .before .before .before .before .pre .1 .1 .1 in
+    rw (p, b, e, w) (site-fits (c .before .before .before .before .before .before .before .before .before .before .pre .0) _ (c .before .before .before .before .before .before .before .before .before .before .pre .1 .1 .0 .site-in) _ (room .end) (room .beside))
 
 same-length : tie.Need-same-length
 same-length c = search needs
@@ -22,21 +47,27 @@ same-length-3 : tie.Need-same-length-3
 same-length-3 c = search needs
 
 returns : tie.Need-returns
-returns c = c .before .before .before .before .before .before .modulate-by .ensures
-
-returns-2 : tie.Need-returns-2
-returns-2 c =
-    let p = c .before .before .before .before .before .before .pre in
-    site-left-out (p .0) _ (p .1 .1 .0 .site-in) (p .1 .1 .1 .past) (not-played _ (sym (c .if1 .left) ∙ c .before .plays .ensures _ (p .1 .1 .0)))
+returns c =
+    let p = c .before .before .before .before .before .before .before .before .before .before .before .before .applied-site .ensures in
+    let b = c .before .before .before .before .before .before .before .before .before .before .before .shifted .ensures in
+    let e = c .before .before .before .before .before .before .before .before .before .before .place .ensures ∙ c .before .before .before .before .before .before .before .before .before .before .before .before .before .before .before .before .before .pre .1 .0 .is _ (omega (arith, c .before .before .before .before .before .before .before .before .before .before .before .before .before .before .before .before .before .pre .1 .1 .0 .site-in)) in
+    let w = c .before .before .before .before .before .before .before .before .before .before .before .before .before .before .before .before .before .pre .1 .1 .2 in
+    let room = c .before .before .before .before .before .before .before .before .before .before .before .before .before .before .before .before .before .pre .1 .1 .1 in
+    site-past (c .before .before .before .before .before .before .before .before .before .before .before .before .before .before .before .before .before .pre .0) _ (c .before .before .before .before .before .before .before .before .before .before .before .before .before .before .before .before .before .pre .1 .1 .0 .site-in) (room .past) (rw (p, b, e, w) at (c .before .before .before .before .before .before .site-in .ensures))
 
 pub modulate-spec : {M : Type 1} → statement M
 modulate-spec =
     tie.close
     (tie.spec
-    plays-requires
-    modulate-by-requires
+    applied-site-requires
+    shifted-requires
+    add-place
+    place-requires
+    mul-condition
+    mul-s
+    mul-rows
+    site-in-requires
     same-length
     same-length-2
     same-length-3
-    returns
-    returns-2)
+    returns)
