@@ -56,11 +56,12 @@ module _ (weights old work sums more last : List Float) (to from stride n w step
       l ∙ fill-ext (to + i * 16) 16 (at more) (λ k. row (i * 16 + k)) work same
       ∙ rw (e, next) (fill-join to (i * 16) 16 row old)
 
--- .. and a law for each of the two ways that lanes are summed in stretches: the same products said otherwise, and some products after others
-pub lanes-ext : (n k : ℕ) (start : ℕ → Float) (f g : ℕ → ℕ → Float) (sums : List Float) → sums ≡ tab n (λ i. sumFrom (start i) k (f i))
+-- the same products said otherwise
+lanes-ext : (n k : ℕ) (start : ℕ → Float) (f g : ℕ → ℕ → Float) (sums : List Float) → sums ≡ tab n (λ i. sumFrom (start i) k (f i))
     → ((i j : ℕ) → i < n → j < k → f i j ≡ g i j) → sums ≡ tab n (λ i. sumFrom (start i) k (g i))
 lanes-ext n k start f g sums e h = e ∙ tab-ext nan n _ _ (λ i lt. sum-ext (start i) k (f i) (g i) (λ j hj. h i j lt hj))
 
+-- lanes summed in stretches of inputs: some products after others
 pub lanes-join : (n d k : ℕ) (start : ℕ → Float) (f g : ℕ → ℕ → Float) (sums last : List Float) → sums ≡ tab n (λ i. sumFrom (start i) d (f i))
     → last ≡ tab n (λ i. sumFrom (at sums i) k (g i)) → ((i j : ℕ) → i < n → j < k → g i j ≡ f i (d + j))
     → last ≡ tab n (λ i. sumFrom (start i) (d + k) (f i))
@@ -74,12 +75,4 @@ pub outputs-part : {nvalues nweights from w between last step many : ℕ} (d k :
 outputs-part d k f le = record {
   values-in = omega (arith, f .values-in);
   weights-in = λ i j hi hj. omega (arith, f .weights-in i (d + j) hi (omega arith));
-}
-
--- where all eight lanes are outputs, the first eight outputs lie where all of them do
-pub outputs-whole : {nvalues nweights from w between last step many : ℕ} (literal : ℕ) → OutputsFit nvalues nweights from w between last step many
-    → 7 ≤ last → step ≡ literal → OutputsFit nvalues nweights from w between 7 literal many
-outputs-whole literal f le e = record {
-  values-in = f .values-in;
-  weights-in = λ i j hi hj. rw e at (f .weights-in i j (omega arith) hj);
 }
