@@ -1,13 +1,14 @@
--- Sums side by side, for any number of them: one more product in each; and a row of them, sixteen at a time. Assumes nothing.
-use mathlib.Core.Path.{_≡_, sym, _∙_}
+-- Sums side by side, for any number of them: one more product in each; a row of them, sixteen at a time; and sums stored next to each other. Assumes nothing.
+use mathlib.Core.Path.{_≡_, refl, sym, _∙_, ap}
 use mathlib.Core.List.{List}
-use Prim.Native.Nat.{ℕ, _+_, _*_, _/_, _≤_, _<_}
+use Prim.Native.Nat.{ℕ, zero, suc, _+_, _-_, _*_, _/_, _≤_, _<_}
+use native.Mathlib.Nat.{add-zero, mul-one}
 use native.Mathlib.Omega.{arith}
-use lib.ListN.{length}
+use lib.ListN.{length, set}
 use lib.Ieee.{Float, nan, binary32, add}
-use Rattle.lists.specs.Tab.{at, tab, fill}
+use Rattle.lists.specs.Tab.{at, tab, fill, rows}
 use Rattle.lists.proofs.Tab.{at-tab, is-tab, tab-ext}
-use Rattle.lists.proofs.Fill.{fill-ext, fill-join, fill-apart}
+use Rattle.lists.proofs.Fill.{fill-none, fill-turn, fill-ext, fill-join, fill-apart, fill-swap}
 use Rattle.single.specs.Sum.{sumFrom}
 use Rattle.single.proofs.Sum.{sum-none, sum-more, sum-ext, sum-join}
 use Rattle.sums.specs.Product.{product}
@@ -76,3 +77,27 @@ outputs-part d k f le = record {
   values-in = omega (arith, f .values-in);
   weights-in = λ i j hi hj. omega (arith, f .weights-in i (d + j) hi (omega arith));
 }
+
+-- ---- sums stored next to each other, the first one last: one store more of the others
+pub others-turn : (to i : ℕ) (g : ℕ → Float) (v : Float) (out old : List Float) → 0 < i → out ≡ fill (to + 1) (i - 1) g old → v ≡ g (i - 1)
+    → set out (to + i) v ≡ fill (to + 1) (i + 1 - 1) g old
+others-turn to i g v out old some e h =
+    let place : to + i ≡ to + 1 + (i - 1) = omega arith in
+    let next : i + 1 - 1 ≡ i - 1 + 1 = omega arith in
+    ap (λ (k : ℕ). set out k v) place ∙ rw next (fill-turn out old (to + 1) (i - 1) g v e h)
+
+-- places filled next to each other are rows of one place
+cells : (to n : ℕ) (f : ℕ → Float) (old : List Float) → fill to n f old ≡ rows to 1 1 n (λ i t. f i) old
+unfolding fill rows
+cells to zero f old = refl
+cells to (suc n) f old = rw (cells to n f old, mul-one n, add-zero (to + n))
+
+-- .. and then the first
+pub first-last : (to n : ℕ) (f g : ℕ → Float) (out old : List Float) → to + (1 + n) ≤ length old → out ≡ fill (to + 1) n g old
+    → ((k : ℕ) → k < n → g k ≡ f (1 + k)) → set out to (f 0) ≡ rows to 1 1 (1 + n) (λ i t. f i) old
+first-last to n f g out old b e h =
+    let one : set out to (f 0) ≡ fill to 1 f out = rw add-zero at (fill-turn out out to 0 f (f 0) (sym (fill-none to f out)) refl) in
+    let others : out ≡ fill (to + 1) n (λ k. f (1 + k)) old = e ∙ fill-ext (to + 1) n g (λ k. f (1 + k)) old h in
+    let swapped : fill to 1 f out ≡ fill (to + 1) n (λ k. f (1 + k)) (fill to 1 f old) =
+    rw others (fill-swap nan to 1 (to + 1) n f (λ k. f (1 + k)) old (omega arith) (omega arith) (omega arith)) in
+    one ∙ swapped ∙ fill-join to 1 n f old ∙ cells to (1 + n) f old

@@ -347,14 +347,16 @@ pub fn add_output(
     r
 }
 
-// Eight numbers into work, next to each other. As eight is written out, the compiler stores four at once.
+// Eight numbers into work, next to each other. As eight is written out, the compiler stores four at once. The first number comes last: were it the first,
+// as it is where they lie apart, the compiler would make one store of the two, and the eight would no longer be stored together.
 fn put_eight(work: &mut [f32], to: usize, sums: [f32; 8])
     requires { ⌜ to + 8 ≤ length (now work) ⌝ }
     ensures { λ _. ⌜ now (work .exit) ≡ rows to 1 1 8 (λ i t. at sums i) (now (work .entry)) ⌝ }
 {
-    for i in 0..8 {
+    for i in 1..8 {
         work[to + i] = sums[i];
     }
+    work[to] = sums[0];
 }
 
 // Eight numbers into work, stride apart.
@@ -379,14 +381,15 @@ pub fn put(work: &mut [f32], to: usize, stride: usize, sums: [f32; 8])
     put_apart(work, to, stride, sums);
 }
 
-// Four numbers into work, next to each other: one store.
+// Four numbers into work, next to each other, the first one last again: one store.
 fn put_half_next(work: &mut [f32], to: usize, sums: [f32; 4])
     requires { ⌜ to + 4 ≤ length (now work) ⌝ }
     ensures { λ _. ⌜ now (work .exit) ≡ rows to 1 1 4 (λ i t. at sums i) (now (work .entry)) ⌝ }
 {
-    for i in 0..4 {
+    for i in 1..4 {
         work[to + i] = sums[i];
     }
+    work[to] = sums[0];
 }
 
 // Four numbers into work, stride apart.
