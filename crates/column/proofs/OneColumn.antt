@@ -1,8 +1,9 @@
 -- One column: lanes are outputs, stretches of outputs make a group, groups make all; and the memory keeps its size. Assumes nothing.
 use mathlib.Core.Path.{_≡_, sym, _∙_, ap}
 use mathlib.Core.Bool.{cond}
+use mathlib.Core.Logic.{_⊎_, inl, inr}
 use mathlib.Core.List.{List}
-use Prim.Native.Nat.{ℕ, min, _+_, _*_, _≤_, _<_}
+use Prim.Native.Nat.{ℕ, _+_, _*_}
 use native.Mathlib.Omega.{arith}
 use lib.ListN.{length, set}
 use lib.Ieee.{Float, nan, binary32, ofBits}
@@ -19,24 +20,24 @@ use Rattle.column.specs.Fits.{PartsFit}
 
 module _ (sh : Shape) (weights : List Float) (s : Memory) where
   -- a lane's sum, from what it starts at, is its output
-  pub lane-output : (o i count : ℕ) (begun sum : Float) → count ≡ kernelCount sh → begun ≡ cond (sh .biased) (at weights (count + o + i)) (ofBits binary32 0)
+  lane-output : (o i count : ℕ) (begun sum : Float) → count ≡ kernelCount sh → begun ≡ cond (sh .biased) (at weights (count + o + i)) (ofBits binary32 0)
       → sum ≡ tapsFrom sh weights (past (sh .ins) (ringLength sh) s) (o + i) (sh .kernel) begun → sum ≡ output sh weights s (o + i)
   unfolding output startOf
   lane-output o i count begun sum e b h =
       let is : kernelCount sh + o + i ≡ kernelCount sh + (o + i) = omega arith in
       rw (h, b, e, is)
 
-  -- the first n lanes are n outputs from o on
-  pub lanes-are : (o count n last : ℕ) (begun sums : List Float) → count ≡ kernelCount sh → n ≤ 8 → n ≡ last + 1
-      → begun ≡ tab 8 (λ i. cond (sh .biased) (at weights (count + o + min i last)) (ofBits binary32 0))
-      → sums ≡ tab 8 (λ i. tapsFrom sh weights (past (sh .ins) (ringLength sh) s) (o + min i last) (sh .kernel) (at begun i))
-      → (i : ℕ) → i < n → at sums i ≡ output sh weights s (o + i)
-  lanes-are o count n last begun sums e le en b h i hi =
-      let own : min i last ≡ i = omega arith in
-      let eight : i < 8 = omega arith in
+  -- the sums of n lanes, stored one after another, are n outputs from o on
+  pub lanes-are : (lanes to m o count n : ℕ) (begun sums old last : List Float) → count ≡ kernelCount sh → n ≡ lanes
+      → begun ≡ tab lanes (λ i. cond (sh .biased) (at weights (count + o + i)) (ofBits binary32 0))
+      → sums ≡ tab lanes (λ i. tapsFrom sh weights (past (sh .ins) (ringLength sh) s) (o + i) (sh .kernel) (at begun i))
+      → last ≡ rows to m 1 lanes (λ i t. at sums i) old → last ≡ rows to m 1 n (λ i t. output sh weights s (o + i)) old
+  lanes-are lanes to m o count n begun sums old last e en b h l =
+      let same = rows-ext to m 1 lanes (λ i t. at sums i) (λ i t. output sh weights s (o + i)) old (λ i t hi ht.
       lane-output o i count (at begun i) (at sums i) e
-      (rw (b, at-tab nan 8 _ i eight, own))
-      (rw (h, at-tab nan 8 _ i eight, own))
+      (rw (b, at-tab nan lanes _ i hi))
+      (rw (h, at-tab nan lanes _ i hi))) in
+      rw en (l ∙ same)
 
   -- one output alone
   pub one-is : (old : List Float) (out m o count n : ℕ) (begun sum : Float) → count ≡ kernelCount sh → n ≡ 1
@@ -67,6 +68,12 @@ module _ (sh : Shape) (weights : List Float) (s : Memory) where
       → last ≡ rows (out + g * n * m) m 1 n (λ i t. output sh weights s (g * n + i)) work
       → last ≡ rows out m 1 ((g + 1) * n) (λ o t. output sh weights s o) old
   groups-turn old work last out m g n e l = l ∙ rw (e, row-next g n) (rows-join out m 1 (g * n) n (λ o t. output sh weights s o) old)
+
+-- a stretch that is neither one output nor four is eight
+pub eight-left : {n : ℕ} → (n ≡ 1) ⊎ ((n ≡ 4) ⊎ (n ≡ 8)) → (n ≡ 1 → ⊥) → (n ≡ 4 → ⊥) → n ≡ 8
+eight-left (inl e) one four = absurd (one e)
+eight-left (inr (inl e)) one four = absurd (four e)
+eight-left (inr (inr e)) one four = e
 
 -- ---- the memory
 pub sound : {sh : Shape} {len nweights : ℕ} (s : Memory) → PartsFit sh (s .place) len (length (s .history)) nweights → Sound (sh .ins) (ringLength sh) s

@@ -1,8 +1,9 @@
-// One column through a convolution: pushed, then its outputs taken, up to eight side by side. Carries conv.rs (`process_sample`). Document 01, 'The
-// recurrence': start at the bias, or +0 without one; add product by product, tap 0 upward, within a tap local input 0 upward.
+// One column through a convolution: pushed, then its outputs taken, eight or four side by side where so many are left. Carries conv.rs
+// (`process_sample`). Document 01, 'The recurrence': start at the bias, or +0 without one; add product by product, tap 0 upward, within a tap local input 0 upward.
 ghost use mathlib.Core.Path.{_≡_};
 ghost use mathlib.Core.Bool.{true, cond};
-ghost use Prim.Native.Nat.{ℕ, _+_, _*_, _≤_, _<_, min};
+ghost use mathlib.Core.Logic.{_⊎_};
+ghost use Prim.Native.Nat.{ℕ, _+_, _*_, _≤_, _<_};
 ghost use lib.ListN.{length};
 ghost use lib.Ieee.{ofBits, binary32};
 ghost use Rattle.lists.specs.Tab.{at, tab, rows};
@@ -41,35 +42,43 @@ fn eight_biases(weights: &[f32], from: usize) -> [f32; 8]
     r
 }
 
-// What the sums of eight lanes start at, lane by lane.
-fn start_lanes(weights: &[f32], biased: bool, from: usize, last: usize) -> [f32; 8]
-    requires { ⌜ (from + last < 4294967296) × (biased ≡ true → from + last < length (now weights)) ⌝ }
-    ensures { λ r. ⌜ r ≡ tab 8 (λ i. cond biased (at (now (weights .entry)) (from + min i last)) (ofBits binary32 0)) ⌝ }
+// Four biases next to each other.
+fn four_biases(weights: &[f32], from: usize) -> [f32; 4]
+    requires { ⌜ from + 4 ≤ length (now weights) ⌝ }
+    ensures { λ r. ⌜ r ≡ tab 4 (λ i. at (now (weights .entry)) (from + i)) ⌝ }
 {
-    let mut r = [0.0f32; 8];
-    for i in 0..8 {
-        let o = sums::lane(i, last);
-        let b = bias(weights, biased, from + o);
-        r[i] = b;
+    let mut r = [0.0f32; 4];
+    for i in 0..4 {
+        r[i] = weights[from + i];
     }
     r
 }
 
-// What the sums of eight lanes start at; the biases of eight outputs are loaded at once.
-fn start_eight(weights: &[f32], biased: bool, from: usize, last: usize) -> [f32; 8]
-    requires { ⌜ (from + last < 4294967296) × (biased ≡ true → from + last < length (now weights)) ⌝ }
-    ensures { λ r. ⌜ r ≡ tab 8 (λ i. cond biased (at (now (weights .entry)) (from + min i last)) (ofBits binary32 0)) ⌝ }
+// What the sums of eight outputs start at.
+fn start_eight(weights: &[f32], biased: bool, from: usize) -> [f32; 8]
+    requires { ⌜ (biased ≡ true → from + 8 ≤ length (now weights)) ⌝ }
+    ensures { λ r. ⌜ r ≡ tab 8 (λ i. cond biased (at (now (weights .entry)) (from + i)) (ofBits binary32 0)) ⌝ }
 {
-    if last == 7 {
-        if biased {
-            return eight_biases(weights, from);
-        }
-        return [0.0f32; 8];
+    if biased {
+        eight_biases(weights, from)
+    } else {
+        [0.0f32; 8]
     }
-    start_lanes(weights, biased, from, last)
 }
 
-// All taps of the outputs o .. o + last, which are of group g, onto the sums of eight lanes. Read out of the history, where the column was pushed.
+// What the sums of four outputs start at.
+fn start_four(weights: &[f32], biased: bool, from: usize) -> [f32; 4]
+    requires { ⌜ (biased ≡ true → from + 4 ≤ length (now weights)) ⌝ }
+    ensures { λ r. ⌜ r ≡ tab 4 (λ i. cond biased (at (now (weights .entry)) (from + i)) (ofBits binary32 0)) ⌝ }
+{
+    if biased {
+        four_biases(weights, from)
+    } else {
+        [0.0f32; 4]
+    }
+}
+
+// All taps of the eight outputs from o on, which are of group g, onto their sums. Read out of the history, where the column was pushed.
 fn taps_eight(
     sums: [f32; 8],
     history: &[f32],
@@ -78,11 +87,10 @@ fn taps_eight(
     sh: Shape,
     g: usize,
     o: usize,
-    last: usize,
 ) -> [f32; 8]
-    requires { ⌜ PartsFit sh (ring .at) (ring .len) (length (now history)) (length (now weights)) × GroupFits sh g o (last + 1) ⌝ }
+    requires { ⌜ PartsFit sh (ring .at) (ring .len) (length (now history)) (length (now weights)) × GroupFits sh g o 8 ⌝ }
     ensures { λ r. ⌜ r ≡ tab 8 (λ i. tapsFrom sh (now (weights .entry))
-        (past (sh .ins) (ringLength sh) (record { history = now (history .entry); place = ring .at })) (o + min i last) (sh .kernel) (at sums i)) ⌝ }
+        (past (sh .ins) (ringLength sh) (record { history = now (history .entry); place = ring .at })) (o + i) (sh .kernel) (at sums i)) ⌝ }
 {
     let ins = sh.ins;
     let kernel = sh.kernel;
@@ -101,7 +109,45 @@ fn taps_eight(
             column * ins + base,
             w + k,
             between,
-            last,
+            kernel,
+            ipg,
+        );
+        r = more;
+    }
+    r
+}
+
+// The same of four outputs.
+fn taps_four(
+    sums: [f32; 4],
+    history: &[f32],
+    weights: &[f32],
+    ring: Ring,
+    sh: Shape,
+    g: usize,
+    o: usize,
+) -> [f32; 4]
+    requires { ⌜ PartsFit sh (ring .at) (ring .len) (length (now history)) (length (now weights)) × GroupFits sh g o 4 ⌝ }
+    ensures { λ r. ⌜ r ≡ tab 4 (λ i. tapsFrom sh (now (weights .entry))
+        (past (sh .ins) (ringLength sh) (record { history = now (history .entry); place = ring .at })) (o + i) (sh .kernel) (at sums i)) ⌝ }
+{
+    let ins = sh.ins;
+    let kernel = sh.kernel;
+    let ipg = sh.inputs_per_group();
+    let base = g * ipg;
+    let between = ipg * kernel;
+    let w = o * between;
+    let mut r = sums;
+    for k in 0..kernel {
+        let back = steps_back(sh, k);
+        let column = ring.back(back);
+        let more = sums::add_four_outputs(
+            r,
+            history,
+            weights,
+            column * ins + base,
+            w + k,
+            between,
             kernel,
             ipg,
         );
@@ -139,7 +185,7 @@ fn taps_one(
     r
 }
 
-// The n outputs from o on, which are of group g: side by side, but for one alone. An output's number is m places after that of the output before.
+// The n outputs from o on, which are of group g: eight or four side by side, or one alone. An output's number is m places after that of the output before.
 fn some_outputs(
     work: &mut [f32],
     history: &[f32],
@@ -152,8 +198,8 @@ fn some_outputs(
     o: usize,
     n: usize,
 )
-    requires { ⌜ PartsFit sh (ring .at) (ring .len) (length (now history)) (length (now weights)) × GroupFits sh g o n × (0 < n) × (n ≤ 8)
-        × ((o : ℕ) → o < sh .outs → out + o * m < length (now work)) ⌝ }
+    requires { ⌜ PartsFit sh (ring .at) (ring .len) (length (now history)) (length (now weights)) × GroupFits sh g o n
+        × ((n ≡ 1) ⊎ ((n ≡ 4) ⊎ (n ≡ 8))) × ((o : ℕ) → o < sh .outs → out + o * m < length (now work)) ⌝ }
     ensures { λ _. ⌜ now (work .exit) ≡ rows (out + o * m) m 1 n
         (λ i t. output sh (now (weights .entry)) (record { history = now (history .entry); place = ring .at }) (o + i)) (now (work .entry)) ⌝ }
 {
@@ -163,14 +209,32 @@ fn some_outputs(
         let begun = bias(weights, biased, from);
         let sum = taps_one(begun, history, weights, ring, sh, g, o);
         work[out + o * m] = sum;
+    } else if n == 4 {
+        let begun = start_four(weights, biased, from);
+        let sums = taps_four(begun, history, weights, ring, sh, g, o);
+        sums::put_half(work, out + o * m, m, sums);
     } else {
-        let begun = start_eight(weights, biased, from, n - 1);
-        let sums = taps_eight(begun, history, weights, ring, sh, g, o, n - 1);
-        sums::put(work, out + o * m, m, sums, n);
+        let begun = start_eight(weights, biased, from);
+        let sums = taps_eight(begun, history, weights, ring, sh, g, o);
+        sums::put(work, out + o * m, m, sums);
     }
 }
 
-// The outputs of group g, eight at a time.
+// How many outputs are taken next, where some are left.
+fn stretch(left: usize) -> usize
+    requires { ⌜ 0 < left ⌝ }
+    ensures { λ r. ⌜ (0 < r) × (r ≤ left) × ((r ≡ 1) ⊎ ((r ≡ 4) ⊎ (r ≡ 8))) ⌝ }
+{
+    if 8 <= left {
+        8
+    } else if 4 <= left {
+        4
+    } else {
+        1
+    }
+}
+
+// The outputs of group g: eights, then a four, then those left one by one.
 fn group_outputs(
     work: &mut [f32],
     history: &[f32],
@@ -190,7 +254,7 @@ fn group_outputs(
     let first = g * opg;
     let mut i = 0;
     while i < opg {
-        let n = sums::lane(opg - i, 8);
+        let n = stretch(opg - i);
         some_outputs(work, history, weights, out, m, ring, sh, g, first + i, n);
         i = i + n;
     }

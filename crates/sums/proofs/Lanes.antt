@@ -1,13 +1,14 @@
--- Sums side by side, for any number of them: one more product in each; and a row of them, sixteen at a time. Assumes nothing.
-use mathlib.Core.Path.{_≡_, sym, _∙_}
+-- Sums side by side, for any number of them: one more product in each; a row of them, sixteen at a time; and sums stored next to each other. Assumes nothing.
+use mathlib.Core.Path.{_≡_, refl, sym, _∙_, ap}
 use mathlib.Core.List.{List}
-use Prim.Native.Nat.{ℕ, _+_, _*_, _/_, _≤_, _<_}
+use Prim.Native.Nat.{ℕ, zero, suc, _+_, _-_, _*_, _/_, _≤_, _<_}
+use native.Mathlib.Nat.{add-zero, mul-one}
 use native.Mathlib.Omega.{arith}
-use lib.ListN.{length}
+use lib.ListN.{length, set}
 use lib.Ieee.{Float, nan, binary32, add}
-use Rattle.lists.specs.Tab.{at, tab, fill}
+use Rattle.lists.specs.Tab.{at, tab, fill, rows}
 use Rattle.lists.proofs.Tab.{at-tab, is-tab, tab-ext}
-use Rattle.lists.proofs.Fill.{fill-ext, fill-join, fill-apart}
+use Rattle.lists.proofs.Fill.{fill-none, fill-turn, fill-ext, fill-join, fill-apart, fill-swap}
 use Rattle.single.specs.Sum.{sumFrom}
 use Rattle.single.proofs.Sum.{sum-none, sum-more, sum-ext, sum-join}
 use Rattle.sums.specs.Product.{product}
@@ -56,11 +57,12 @@ module _ (weights old work sums more last : List Float) (to from stride n w step
       l ∙ fill-ext (to + i * 16) 16 (at more) (λ k. row (i * 16 + k)) work same
       ∙ rw (e, next) (fill-join to (i * 16) 16 row old)
 
--- .. and a law for each of the two ways that lanes are summed in stretches: the same products said otherwise, and some products after others
-pub lanes-ext : (n k : ℕ) (start : ℕ → Float) (f g : ℕ → ℕ → Float) (sums : List Float) → sums ≡ tab n (λ i. sumFrom (start i) k (f i))
+-- the same products said otherwise
+lanes-ext : (n k : ℕ) (start : ℕ → Float) (f g : ℕ → ℕ → Float) (sums : List Float) → sums ≡ tab n (λ i. sumFrom (start i) k (f i))
     → ((i j : ℕ) → i < n → j < k → f i j ≡ g i j) → sums ≡ tab n (λ i. sumFrom (start i) k (g i))
 lanes-ext n k start f g sums e h = e ∙ tab-ext nan n _ _ (λ i lt. sum-ext (start i) k (f i) (g i) (λ j hj. h i j lt hj))
 
+-- lanes summed in stretches of inputs: some products after others
 pub lanes-join : (n d k : ℕ) (start : ℕ → Float) (f g : ℕ → ℕ → Float) (sums last : List Float) → sums ≡ tab n (λ i. sumFrom (start i) d (f i))
     → last ≡ tab n (λ i. sumFrom (at sums i) k (g i)) → ((i j : ℕ) → i < n → j < k → g i j ≡ f i (d + j))
     → last ≡ tab n (λ i. sumFrom (start i) (d + k) (f i))
@@ -76,10 +78,26 @@ outputs-part d k f le = record {
   weights-in = λ i j hi hj. omega (arith, f .weights-in i (d + j) hi (omega arith));
 }
 
--- where all eight lanes are outputs, the first eight outputs lie where all of them do
-pub outputs-whole : {nvalues nweights from w between last step many : ℕ} (literal : ℕ) → OutputsFit nvalues nweights from w between last step many
-    → 7 ≤ last → step ≡ literal → OutputsFit nvalues nweights from w between 7 literal many
-outputs-whole literal f le e = record {
-  values-in = f .values-in;
-  weights-in = λ i j hi hj. rw e at (f .weights-in i j (omega arith) hj);
-}
+-- ---- sums stored next to each other, the first one last: one store more of the others
+pub others-turn : (to i : ℕ) (g : ℕ → Float) (v : Float) (out old : List Float) → 0 < i → out ≡ fill (to + 1) (i - 1) g old → v ≡ g (i - 1)
+    → set out (to + i) v ≡ fill (to + 1) (i + 1 - 1) g old
+others-turn to i g v out old some e h =
+    let place : to + i ≡ to + 1 + (i - 1) = omega arith in
+    let next : i + 1 - 1 ≡ i - 1 + 1 = omega arith in
+    ap (λ (k : ℕ). set out k v) place ∙ rw next (fill-turn out old (to + 1) (i - 1) g v e h)
+
+-- places filled next to each other are rows of one place
+cells : (to n : ℕ) (f : ℕ → Float) (old : List Float) → fill to n f old ≡ rows to 1 1 n (λ i t. f i) old
+unfolding fill rows
+cells to zero f old = refl
+cells to (suc n) f old = rw (cells to n f old, mul-one n, add-zero (to + n))
+
+-- .. and then the first
+pub first-last : (to n : ℕ) (f g : ℕ → Float) (out old : List Float) → to + (1 + n) ≤ length old → out ≡ fill (to + 1) n g old
+    → ((k : ℕ) → k < n → g k ≡ f (1 + k)) → set out to (f 0) ≡ rows to 1 1 (1 + n) (λ i t. f i) old
+first-last to n f g out old b e h =
+    let one : set out to (f 0) ≡ fill to 1 f out = rw add-zero at (fill-turn out out to 0 f (f 0) (sym (fill-none to f out)) refl) in
+    let others : out ≡ fill (to + 1) n (λ k. f (1 + k)) old = e ∙ fill-ext (to + 1) n g (λ k. f (1 + k)) old h in
+    let swapped : fill to 1 f out ≡ fill (to + 1) n (λ k. f (1 + k)) (fill to 1 f old) =
+    rw others (fill-swap nan to 1 (to + 1) n f (λ k. f (1 + k)) old (omega arith) (omega arith) (omega arith)) in
+    one ∙ swapped ∙ fill-join to 1 n f old ∙ cells to (1 + n) f old

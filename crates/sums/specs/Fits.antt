@@ -1,6 +1,6 @@
 -- What the places have to be: of the sums, of the rows or numbers that the inputs are, and of the weights.
 use mathlib.Core.Path.{_≡_}
-use Prim.Native.Nat.{ℕ, _+_, _*_, _%_, _≤_, _<_, min, max}
+use Prim.Native.Nat.{ℕ, _+_, _*_, _%_, _≤_, _<_}
 use Rattle.lists.specs.Region.{Apart}
 
 -- n columns of `many` inputs, whose rows are stride apart from `from` on, and their weights

@@ -1,7 +1,7 @@
-// Sums side by side: sixteen columns of one output, or eight outputs of one column. Each sum keeps its own order; side by side none waits for another,
+// Sums side by side: sixteen columns of one output, or eight or four outputs of one column. Each sum keeps its own order; side by side none waits for another,
 // and the compiler makes four additions one. Carries the inner loops of conv.rs. Document 01, 'The recurrence': add product by product.
 ghost use mathlib.Core.Path.{_≡_};
-ghost use Prim.Native.Nat.{ℕ, _+_, _*_, _≤_, _<_, min};
+ghost use Prim.Native.Nat.{ℕ, _+_, _*_, _≤_, _<_};
 ghost use lib.ListN.{length};
 ghost use lib.Ieee.{add, mul, binary32};
 ghost use Rattle.lists.specs.Tab.{at, tab, fill, rows};
@@ -101,40 +101,25 @@ pub fn flat(work: &mut [f32], to: usize, n: usize, v: f32)
     }
 }
 
-// Lane i's output: where there are fewer outputs than lanes, the last one's again.
-pub fn lane(i: usize, last: usize) -> usize
-    ensures { λ r. ⌜ r ≡ min i last ⌝ }
-{
-    if i < last { i } else { last }
-}
-
-// One input's product, in each of eight lanes. The weights of two outputs are `between` apart.
-fn add_weights(
-    sums: [f32; 8],
-    weights: &[f32],
-    w: usize,
-    between: usize,
-    last: usize,
-    x: f32,
-) -> [f32; 8]
-    requires { ⌜ ((i : ℕ) → i ≤ last → w + i * between < length (now weights)) ⌝ }
-    ensures { λ r. ⌜ r ≡ tab 8 (λ i. add binary32 (at sums i) (mul binary32 (at (now (weights .entry)) (w + min i last * between)) x)) ⌝ }
-{
-    let mut r = sums;
-    for i in 0..8 {
-        let o = lane(i, last);
-        r[i] = r[i] + weights[w + o * between] * x;
-    }
-    r
-}
-
-// The same where all eight lanes are outputs: no lane has to be kept within them.
+// One input's product, in each of eight outputs. The weights of two outputs are `between` apart.
 fn add_whole(sums: [f32; 8], weights: &[f32], w: usize, between: usize, x: f32) -> [f32; 8]
     requires { ⌜ ((i : ℕ) → i ≤ 7 → w + i * between < length (now weights)) ⌝ }
     ensures { λ r. ⌜ r ≡ tab 8 (λ i. add binary32 (at sums i) (mul binary32 (at (now (weights .entry)) (w + i * between)) x)) ⌝ }
 {
     let mut r = sums;
     for i in 0..8 {
+        r[i] = r[i] + weights[w + i * between] * x;
+    }
+    r
+}
+
+// The same in each of four outputs.
+fn add_half(sums: [f32; 4], weights: &[f32], w: usize, between: usize, x: f32) -> [f32; 4]
+    requires { ⌜ ((i : ℕ) → i ≤ 3 → w + i * between < length (now weights)) ⌝ }
+    ensures { λ r. ⌜ r ≡ tab 4 (λ i. add binary32 (at sums i) (mul binary32 (at (now (weights .entry)) (w + i * between)) x)) ⌝ }
+{
+    let mut r = sums;
+    for i in 0..4 {
         r[i] = r[i] + weights[w + i * between] * x;
     }
     r
@@ -226,7 +211,7 @@ fn fours_thirds(
     r
 }
 
-// Every input's product where all eight lanes are outputs and the weights of two inputs are next to each other: fours of inputs, then those left.
+// Every input's product where the weights of two inputs are next to each other: fours of inputs, then those left.
 fn add_next(
     sums: [f32; 8],
     values: &[f32],
@@ -272,7 +257,7 @@ fn add_thirds(
     r
 }
 
-// Every input's product, one by one, in each of eight lanes.
+// Every input's product, one by one.
 fn add_each(
     sums: [f32; 8],
     values: &[f32],
@@ -280,23 +265,22 @@ fn add_each(
     from: usize,
     w: usize,
     between: usize,
-    last: usize,
     step: usize,
     many: usize,
 ) -> [f32; 8]
-    requires { ⌜ OutputsFit (length (now values)) (length (now weights)) from w between last step many ⌝ }
+    requires { ⌜ OutputsFit (length (now values)) (length (now weights)) from w between 7 step many ⌝ }
     ensures { λ r. ⌜ r ≡ tab 8 (λ i. sumFrom (at sums i) many
-        (product (now (weights .entry)) (w + min i last * between) step (λ j. at (now (values .entry)) (from + j)))) ⌝ }
+        (product (now (weights .entry)) (w + i * between) step (λ j. at (now (values .entry)) (from + j)))) ⌝ }
 {
     let mut r = sums;
     for j in 0..many {
-        let more = add_weights(r, weights, w + j * step, between, last, values[from + j]);
+        let more = add_whole(r, weights, w + j * step, between, values[from + j]);
         r = more;
     }
     r
 }
 
-// Every input's product, in each of eight lanes. Kernel 1 and kernel 3, those of amplifier models, have ways of their own.
+// Every input's product, in each of eight outputs. Kernel 1 and kernel 3, those of amplifier models, have ways of their own.
 pub fn add_outputs(
     sums: [f32; 8],
     values: &[f32],
@@ -304,23 +288,43 @@ pub fn add_outputs(
     from: usize,
     w: usize,
     between: usize,
-    last: usize,
     step: usize,
     many: usize,
 ) -> [f32; 8]
-    requires { ⌜ OutputsFit (length (now values)) (length (now weights)) from w between last step many ⌝ }
+    requires { ⌜ OutputsFit (length (now values)) (length (now weights)) from w between 7 step many ⌝ }
     ensures { λ r. ⌜ r ≡ tab 8 (λ i. sumFrom (at sums i) many
-        (product (now (weights .entry)) (w + min i last * between) step (λ j. at (now (values .entry)) (from + j)))) ⌝ }
+        (product (now (weights .entry)) (w + i * between) step (λ j. at (now (values .entry)) (from + j)))) ⌝ }
 {
-    if 7 <= last {
-        if step == 1 {
-            return add_next(sums, values, weights, from, w, between, many);
-        }
-        if step == 3 {
-            return add_thirds(sums, values, weights, from, w, between, many);
-        }
+    if step == 1 {
+        return add_next(sums, values, weights, from, w, between, many);
     }
-    add_each(sums, values, weights, from, w, between, last, step, many)
+    if step == 3 {
+        return add_thirds(sums, values, weights, from, w, between, many);
+    }
+    add_each(sums, values, weights, from, w, between, step, many)
+}
+
+// Every input's product, in each of four outputs.
+pub fn add_four_outputs(
+    sums: [f32; 4],
+    values: &[f32],
+    weights: &[f32],
+    from: usize,
+    w: usize,
+    between: usize,
+    step: usize,
+    many: usize,
+) -> [f32; 4]
+    requires { ⌜ OutputsFit (length (now values)) (length (now weights)) from w between 3 step many ⌝ }
+    ensures { λ r. ⌜ r ≡ tab 4 (λ i. sumFrom (at sums i) many
+        (product (now (weights .entry)) (w + i * between) step (λ j. at (now (values .entry)) (from + j)))) ⌝ }
+{
+    let mut r = sums;
+    for j in 0..many {
+        let more = add_half(r, weights, w + j * step, between, values[from + j]);
+        r = more;
+    }
+    r
 }
 
 // Every input's product, in one output.
@@ -343,36 +347,69 @@ pub fn add_output(
     r
 }
 
-// Eight numbers into work, next to each other. As eight is written out, the compiler stores four at once.
+// Eight numbers into work, next to each other. As eight is written out, the compiler stores four at once. The first number comes last: were it the first,
+// as it is where they lie apart, the compiler would make one store of the two, and the eight would no longer be stored together.
 fn put_eight(work: &mut [f32], to: usize, sums: [f32; 8])
     requires { ⌜ to + 8 ≤ length (now work) ⌝ }
     ensures { λ _. ⌜ now (work .exit) ≡ rows to 1 1 8 (λ i t. at sums i) (now (work .entry)) ⌝ }
 {
-    for i in 0..8 {
+    for i in 1..8 {
         work[to + i] = sums[i];
     }
+    work[to] = sums[0];
 }
 
-// The first n of eight numbers into work, stride apart.
-fn put_apart(work: &mut [f32], to: usize, stride: usize, sums: [f32; 8], n: usize)
-    requires { ⌜ (n ≤ 8) × ((i : ℕ) → i < n → to + i * stride < length (now work)) ⌝ }
-    ensures { λ _. ⌜ now (work .exit) ≡ rows to stride 1 n (λ i t. at sums i) (now (work .entry)) ⌝ }
+// Eight numbers into work, stride apart.
+fn put_apart(work: &mut [f32], to: usize, stride: usize, sums: [f32; 8])
+    requires { ⌜ ((i : ℕ) → i < 8 → to + i * stride < length (now work)) ⌝ }
+    ensures { λ _. ⌜ now (work .exit) ≡ rows to stride 1 8 (λ i t. at sums i) (now (work .entry)) ⌝ }
 {
-    for i in 0..n {
+    for i in 0..8 {
         work[to + i * stride] = sums[i];
     }
 }
 
-// The same; all eight of a single column go at once.
-pub fn put(work: &mut [f32], to: usize, stride: usize, sums: [f32; 8], n: usize)
-    requires { ⌜ (n ≤ 8) × ((i : ℕ) → i < n → to + i * stride < length (now work)) ⌝ }
-    ensures { λ _. ⌜ now (work .exit) ≡ rows to stride 1 n (λ i t. at sums i) (now (work .entry)) ⌝ }
+// The same; those of a single column go at once.
+pub fn put(work: &mut [f32], to: usize, stride: usize, sums: [f32; 8])
+    requires { ⌜ ((i : ℕ) → i < 8 → to + i * stride < length (now work)) ⌝ }
+    ensures { λ _. ⌜ now (work .exit) ≡ rows to stride 1 8 (λ i t. at sums i) (now (work .entry)) ⌝ }
 {
     if stride == 1 {
-        if n == 8 {
-            put_eight(work, to, sums);
-            return;
-        }
+        put_eight(work, to, sums);
+        return;
     }
-    put_apart(work, to, stride, sums, n);
+    put_apart(work, to, stride, sums);
+}
+
+// Four numbers into work, next to each other, the first one last again: one store.
+fn put_half_next(work: &mut [f32], to: usize, sums: [f32; 4])
+    requires { ⌜ to + 4 ≤ length (now work) ⌝ }
+    ensures { λ _. ⌜ now (work .exit) ≡ rows to 1 1 4 (λ i t. at sums i) (now (work .entry)) ⌝ }
+{
+    for i in 1..4 {
+        work[to + i] = sums[i];
+    }
+    work[to] = sums[0];
+}
+
+// Four numbers into work, stride apart.
+fn put_half_apart(work: &mut [f32], to: usize, stride: usize, sums: [f32; 4])
+    requires { ⌜ ((i : ℕ) → i < 4 → to + i * stride < length (now work)) ⌝ }
+    ensures { λ _. ⌜ now (work .exit) ≡ rows to stride 1 4 (λ i t. at sums i) (now (work .entry)) ⌝ }
+{
+    for i in 0..4 {
+        work[to + i * stride] = sums[i];
+    }
+}
+
+// The same; those of a single column go at once.
+pub fn put_half(work: &mut [f32], to: usize, stride: usize, sums: [f32; 4])
+    requires { ⌜ ((i : ℕ) → i < 4 → to + i * stride < length (now work)) ⌝ }
+    ensures { λ _. ⌜ now (work .exit) ≡ rows to stride 1 4 (λ i t. at sums i) (now (work .entry)) ⌝ }
+{
+    if stride == 1 {
+        put_half_next(work, to, sums);
+        return;
+    }
+    put_half_apart(work, to, stride, sums);
 }

@@ -1,4 +1,4 @@
--- `column::group_outputs` meets its contract. Up to eight outputs more a turn, by `outputs-turn`. Assumes nothing.
+-- `column::group_outputs` meets its contract. A stretch of outputs more a turn, by `outputs-turn`. Assumes nothing.
 use mathlib.Core.Path.{_≡_, sym}
 use Prim.Native.Nat.{_+_, _*_, _-_, _≤_}
 use native.Mathlib.Omega.{arith}
@@ -37,11 +37,11 @@ mul-first c =
 loop-holds : tie.Need-loop-holds Inv-loop μ-loop
 loop-holds c = (search needs, search needs, rows-none _ _ _ _ _)
 
-sub-lane : tie.Need-sub-lane Inv-loop μ-loop
-sub-lane c = search needs
+sub-stretch : tie.Need-sub-stretch Inv-loop μ-loop
+sub-stretch c = search needs
 
-lane-requires : tie.Need-lane-requires Inv-loop μ-loop
-lane-requires c κs = search needs
+stretch-requires : tie.Need-stretch-requires Inv-loop μ-loop
+stretch-requires c κs = search needs
 
 add-some-outputs : tie.Need-add-some-outputs Inv-loop μ-loop
 add-some-outputs c =
@@ -61,16 +61,15 @@ some-outputs-requires c κs =
     let outputs-per-group = c .before .before .before .before .outputs-per-group in
     let loop = c .before .before .before .loop in
     let loop-test = c .before .before .loop-test in
-    let lane = c .before .lane in
+    let next = c .before .stretch in
     let e = outputs-per-group .ensures in
     let d = pre .0 .divided in
     let r = pre .0 .range in
     let end = rw (sym e) at (group-end d r (args .g) (pre .1)) in
-    let few = lane .ensures in (
+    let few = next .ensures in (
       pre .0,
-      stretch (loop .i) (lane .result) (group-fits d r (args .g) (outputs-per-group .result) (outputs-per-group .result) (pre .1) e (omega arith)) (omega (arith, few, loop-test .taken)),
-      omega (arith, few, loop-test .taken),
-      omega (arith, few),
+      stretch (loop .i) (next .result) (group-fits d r (args .g) (outputs-per-group .result) (outputs-per-group .result) (pre .1) e (omega arith)) (omega (arith, few .1, loop-test .taken)),
+      few .2,
       λ o ho. omega (arith, loop .inv .1, pre .2 o ho),
     )
 
@@ -80,29 +79,29 @@ add-i c =
     let args = c .before .before .before .before .before .before .before .before .before .before .before .args in
     let outputs-per-group = c .before .before .before .before .before .before .before .outputs-per-group in
     let loop-test = c .before .before .before .before .before .loop-test in
-    let lane = c .before .before .before .before .lane in
+    let next = c .before .before .before .before .stretch in
     let e = outputs-per-group .ensures in
     let d = pre .0 .divided in
     let r = pre .0 .range in
     let end = rw (sym e) at (group-end d r (args .g) (pre .1)) in
-    omega (arith, lane .ensures, loop-test .taken, end, r .outs-high)
+    omega (arith, next .ensures .0, next .ensures .1, loop-test .taken, end, r .outs-high)
 
 loop-less : tie.Need-loop-less Inv-loop μ-loop
 loop-less c =
     let loop-test = c .before .before .before .before .before .loop-test in
-    let lane = c .before .before .before .before .lane in
-    omega (arith, lane .ensures, loop-test .taken)
+    let next = c .before .before .before .before .stretch in
+    omega (arith, next .ensures .0, next .ensures .1, loop-test .taken)
 
 loop-again : tie.Need-loop-again Inv-loop μ-loop
 loop-again c =
     let args = c .before .before .before .before .before .before .before .before .before .before .before .args in
     let loop = c .before .before .before .before .before .before .loop in
     let loop-test = c .before .before .before .before .before .loop-test in
-    let lane = c .before .before .before .before .lane in
+    let next = c .before .before .before .before .stretch in
     let some-outputs = c .before .before .some-outputs in (
-      omega (arith, lane .ensures, loop-test .taken),
+      omega (arith, next .ensures .0, next .ensures .1, loop-test .taken),
       omega (arith, some-outputs .kept .0, loop .inv .1),
-      outputs-turn (args .sh) (args .weights .now) _ (args .work .now) (loop .work) _ _ _ _ (loop .i) (lane .result) (loop .inv .2) (some-outputs .ensures),
+      outputs-turn (args .sh) (args .weights .now) _ (args .work .now) (loop .work) _ _ _ _ (loop .i) (next .result) (loop .inv .2) (some-outputs .ensures),
     )
 
 same-length : tie.Need-same-length Inv-loop μ-loop
@@ -124,8 +123,8 @@ group-outputs-spec =
     outputs-per-group-requires
     mul-first
     loop-holds
-    sub-lane
-    lane-requires
+    sub-stretch
+    stretch-requires
     add-some-outputs
     some-outputs-requires
     add-i

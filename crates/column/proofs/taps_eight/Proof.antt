@@ -1,6 +1,6 @@
 -- `column::taps_eight` meets its contract. After k taps each lane has the sum through k taps, by `lane-is` and `taps-more`. Assumes nothing.
 use mathlib.Core.Path.{_≡_, sym, _∙_, ap}
-use Prim.Native.Nat.{min, _+_, _-_, _≤_}
+use Prim.Native.Nat.{_+_, _-_, _≤_}
 use native.Mathlib.Omega.{arith}
 use lib.ListN.{length}
 use lib.Ieee.{nan}
@@ -18,12 +18,12 @@ use Rattle.column.proofs.taps_eight.Statement.{statement}
 use Rattle.column.proofs.taps_eight.Tie as tie
 
 abbrev Inv-loop : tie.InvT-loop
-Inv-loop history weights ring sh g o last ins kernel ipg base between w r₀ k₀ r k =
+Inv-loop history weights ring sh g o ins kernel ipg base between w r₀ k₀ r k =
     (k ≤ kernel) × (length r₀ ≡ 8) × (length r ≡ 8)
-    × (r ≡ tab 8 (λ i. tapsFrom sh weights (past (sh .ins) (ringLength sh) (record { history = history; place = ring .at })) (o + min i last) k (at r₀ i)))
+    × (r ≡ tab 8 (λ i. tapsFrom sh weights (past (sh .ins) (ringLength sh) (record { history = history; place = ring .at })) (o + i) k (at r₀ i)))
 
 abbrev μ-loop : tie.MeasureT-loop
-μ-loop history weights ring sh g o last ins kernel ipg base between w r₀ k₀ r k = kernel - k
+μ-loop history weights ring sh g o ins kernel ipg base between w r₀ k₀ r k = kernel - k
 
 inputs-per-group-requires : tie.Need-inputs-per-group-requires Inv-loop μ-loop
 inputs-per-group-requires c κs = c .before .before .pre .0 .range
@@ -103,7 +103,7 @@ add-outputs-requires c κs =
     let h = pre .1 in
     let e = inputs-per-group .ensures in
     let column : c .back .result ≡ placeBack (args .ring .len) (args .ring .at) (stepsBack (args .sh) (loop .k)) = rw (sym (c .before .steps-back .ensures)) (c .back .ensures) in
-    outputs-fit f h e (loop .k) (c .back .result) (c .before .before .loop-test .taken) column (args .last) (omega arith)
+    outputs-fit f h e (loop .k) (c .back .result) (c .before .before .loop-test .taken) column 7 (omega arith)
 
 add-k : tie.Need-add-k Inv-loop μ-loop
 add-k c = search needs
@@ -129,7 +129,7 @@ loop-again c =
       is-tab nan _ 8 _ long (λ i hi.
           taps-more _ _ _ _ _ _ (at (loop .r) i) _ (rw (loop .inv .3) (at-tab nan 8 _ i hi))
           (rw (c .add-outputs .ensures, at-tab nan 8 _ i hi)
-          (lane-is f h e (args .history .now) (args .weights .now) (loop .k) (back .result) (min i (args .last)) (at (loop .r) i) column (omega arith)))),
+          (lane-is f h e (args .history .now) (args .weights .now) (loop .k) (back .result) i (at (loop .r) i) column hi))),
     )
 
 returns : tie.Need-returns Inv-loop μ-loop

@@ -1,6 +1,6 @@
 -- `sums::add_each` meets its contract. After j inputs each lane has the sum of j products, by `lanes-more`. Assumes nothing.
 use mathlib.Core.Path.{_≡_, _∙_, ap}
-use Prim.Native.Nat.{min, ℕ, _+_, _*_, _-_, _≤_}
+use Prim.Native.Nat.{ℕ, _+_, _*_, _-_, _≤_}
 use native.Mathlib.Omega.{arith}
 use lib.ListN.{length}
 use lib.Ieee.{nan}
@@ -15,43 +15,43 @@ use Rattle.sums.proofs.add_each.Statement.{statement}
 use Rattle.sums.proofs.add_each.Tie as tie
 
 abbrev Inv-loop : tie.InvT-loop
-Inv-loop values weights from w between last step many r₀ j₀ r j =
-    (j ≤ many) × (length r ≡ 8) × OutputsFit (length values) (length weights) from w between last step many
-    × (r ≡ tab 8 (λ i. sumFrom (at r₀ i) j (product weights (w + min i last * between) step (λ j. at values (from + j)))))
+Inv-loop values weights from w between step many r₀ j₀ r j =
+    (j ≤ many) × (length r ≡ 8) × OutputsFit (length values) (length weights) from w between 7 step many
+    × (r ≡ tab 8 (λ i. sumFrom (at r₀ i) j (product weights (w + i * between) step (λ j. at values (from + j)))))
 
 abbrev μ-loop : tie.MeasureT-loop
-μ-loop values weights from w between last step many r₀ j₀ r j = many - j
+μ-loop values weights from w between step many r₀ j₀ r j = many - j
 
 loop-holds : tie.Need-loop-holds Inv-loop μ-loop
 loop-holds c = (search needs, search needs, c .before .before .pre, lanes-none 8 _ _ (search needs))
 
-mul-add-weights : tie.Need-mul-add-weights Inv-loop μ-loop
-mul-add-weights c =
+mul-add-whole : tie.Need-mul-add-whole Inv-loop μ-loop
+mul-add-whole c =
     let loop = c .before .loop in
     omega (arith, loop .inv .2 .values-in, loop .inv .2 .weights-in 0 (loop .j) (omega arith) (c .loop-test .taken))
 
-add-add-weights : tie.Need-add-add-weights Inv-loop μ-loop
-add-add-weights c =
+add-add-whole : tie.Need-add-add-whole Inv-loop μ-loop
+add-add-whole c =
     let loop = c .before .loop in
     omega (arith, loop .inv .2 .values-in, loop .inv .2 .weights-in 0 (loop .j) (omega arith) (c .loop-test .taken))
 
-add-add-weights-2 : tie.Need-add-add-weights-2 Inv-loop μ-loop
-add-add-weights-2 c =
+add-add-whole-2 : tie.Need-add-add-whole-2 Inv-loop μ-loop
+add-add-whole-2 c =
     let loop = c .before .loop in
     omega (arith, loop .inv .2 .values-in, loop .inv .2 .weights-in 0 (loop .j) (omega arith) (c .loop-test .taken))
 
-mul-add-weights-2 : tie.Need-mul-add-weights-2 Inv-loop μ-loop
-mul-add-weights-2 c =
+mul-add-whole-2 : tie.Need-mul-add-whole-2 Inv-loop μ-loop
+mul-add-whole-2 c =
     let loop = c .before .loop in
     omega (arith, loop .inv .2 .values-in, loop .inv .2 .weights-in 0 (loop .j) (omega arith) (c .loop-test .taken))
 
-shared-slice-read-add-weights : tie.Need-shared-slice-read-add-weights Inv-loop μ-loop
-shared-slice-read-add-weights c =
+shared-slice-read-add-whole : tie.Need-shared-slice-read-add-whole Inv-loop μ-loop
+shared-slice-read-add-whole c =
     let loop = c .before .before .loop in
     omega (arith, loop .inv .2 .values-in, loop .inv .2 .weights-in 0 (loop .j) (omega arith) (c .before .loop-test .taken))
 
-add-weights-requires : tie.Need-add-weights-requires Inv-loop μ-loop
-add-weights-requires c κs =
+add-whole-requires : tie.Need-add-whole-requires Inv-loop μ-loop
+add-whole-requires c κs =
     let loop = c .before .before .loop in
     λ i le. omega (arith, loop .inv .2 .weights-in i (loop .j) le (c .before .loop-test .taken))
 
@@ -68,9 +68,9 @@ loop-again c =
     let loop = c .before .before .before .loop in
     let same : (i : ℕ) → args .w + loop .j * args .step + i * args .between ≡ args .w + i * args .between + loop .j * args .step = λ i. omega arith in (
       search needs,
-      ap length (c .add-weights .ensures) ∙ length-tab 8 _,
+      ap length (c .add-whole .ensures) ∙ length-tab 8 _,
       loop .inv .2,
-      lanes-more 8 (loop .j) _ _ (loop .r) _ (loop .inv .3) (c .add-weights .ensures ∙ tab-ext nan 8 _ _ (λ i lt. rw (same (min i (args .last))))),
+      lanes-more 8 (loop .j) _ _ (loop .r) _ (loop .inv .3) (c .add-whole .ensures ∙ tab-ext nan 8 _ _ (λ i lt. rw (same i))),
     )
 
 returns : tie.Need-returns Inv-loop μ-loop
@@ -86,12 +86,12 @@ add-each-spec =
     Inv-loop
     μ-loop
     loop-holds
-    mul-add-weights
-    add-add-weights
-    add-add-weights-2
-    mul-add-weights-2
-    shared-slice-read-add-weights
-    add-weights-requires
+    mul-add-whole
+    add-add-whole
+    add-add-whole-2
+    mul-add-whole-2
+    shared-slice-read-add-whole
+    add-whole-requires
     add-j
     loop-less
     loop-again

@@ -1,32 +1,19 @@
--- `sums::add_outputs` meets its contract. Where the last lane is the eighth or a later one, lane i is output i. Assumes nothing.
-use mathlib.Core.Path.{_≡_}
-use Prim.Native.Nat.{min}
-use native.Mathlib.Omega.{arith}
+-- `sums::add_outputs` meets its contract. A way of its own is taken where its step is the one asked for. Assumes nothing.
 use borrow.Author.Needs.{needs}
-use Rattle.sums.specs.Product.{product}
-use Rattle.sums.proofs.Lanes.{lanes-ext, outputs-whole}
 use Rattle.sums.proofs.add_outputs.Statement.{statement}
 use Rattle.sums.proofs.add_outputs.Tie as tie
 
 add-next-requires : tie.Need-add-next-requires
-add-next-requires c κs = outputs-whole _ (c .before .before .before .before .pre) (c .before .if1 .taken) (c .if2 .taken)
+add-next-requires c κs = rw (c .if1 .taken) at (c .before .before .before .pre)
 
 returns : tie.Need-returns
-unfolding product
-returns c =
-    let args = c .before .before .before .before .before .args in
-    lanes-ext 8 (args .many) _ _ _ _ (c .add-next .ensures) (λ i j hi hj.
-    let all : min i (args .last) ≡ i = omega (arith, c .before .before .if1 .taken, hi) in rw (all, c .before .if2 .taken))
+returns c = rw (c .before .if1 .taken) (c .add-next .ensures)
 
 add-thirds-requires : tie.Need-add-thirds-requires
-add-thirds-requires c κs = outputs-whole _ (c .before .before .before .before .before .pre) (c .before .before .if1 .taken) (c .if3 .taken)
+add-thirds-requires c κs = rw (c .if2 .taken) at (c .before .before .before .before .pre)
 
 returns-2 : tie.Need-returns-2
-unfolding product
-returns-2 c =
-    let args = c .before .before .before .before .before .before .args in
-    lanes-ext 8 (args .many) _ _ _ _ (c .add-thirds .ensures) (λ i j hi hj.
-    let all : min i (args .last) ≡ i = omega (arith, c .before .before .before .if1 .taken, hi) in rw (all, c .before .if3 .taken))
+returns-2 c = rw (c .before .if2 .taken) (c .add-thirds .ensures)
 
 add-each-requires : tie.Need-add-each-requires
 add-each-requires c κs = search needs

@@ -1,18 +1,17 @@
--- `sums::put` meets its contract. All eight next to each other are the eight that are asked for. Assumes nothing.
+-- `sums::put` meets its contract. Eight a stride of 1 apart are next to each other. Assumes nothing.
 use native.Mathlib.Omega.{arith}
 use borrow.Author.Needs.{needs}
 use Rattle.sums.proofs.put.Statement.{statement}
 use Rattle.sums.proofs.put.Tie as tie
 
 put-eight-requires : tie.Need-put-eight-requires
-put-eight-requires c κs =
-    omega (arith, rw (c .before .before .if1 .taken) at (c .before .before .before .before .pre .1 7 (omega (arith, c .before .if2 .taken))))
+put-eight-requires c κs = omega (arith, rw (c .before .if1 .taken) at (c .before .before .before .pre 7 (omega arith)))
 
 same-length : tie.Need-same-length
 same-length c = search needs
 
 returns : tie.Need-returns
-returns c = rw (c .before .before .before .before .before .if1 .taken, c .before .before .before .before .if2 .taken) (c .before .before .put-eight .ensures)
+returns c = rw (c .before .before .before .before .if1 .taken) (c .before .before .put-eight .ensures)
 
 put-apart-requires : tie.Need-put-apart-requires
 put-apart-requires c κs = search needs
