@@ -146,27 +146,6 @@ fn four_next(
     r
 }
 
-// Four inputs, their weights three apart (kernel 3).
-fn four_thirds(
-    sums: [f32; 8],
-    values: &[f32],
-    weights: &[f32],
-    from: usize,
-    w: usize,
-    between: usize,
-) -> [f32; 8]
-    requires { ⌜ OutputsFit (length (now values)) (length (now weights)) from w between 7 3 4 ⌝ }
-    ensures { λ r. ⌜ r ≡ tab 8 (λ i. sumFrom (at sums i) 4
-        (product (now (weights .entry)) (w + i * between) 3 (λ j. at (now (values .entry)) (from + j)))) ⌝ }
-{
-    let mut r = sums;
-    for j in 0..4 {
-        let more = add_whole(r, weights, w + j * 3, between, values[from + j]);
-        r = more;
-    }
-    r
-}
-
 // n fours of inputs, the weights of all next to each other.
 fn fours_next(
     sums: [f32; 8],
@@ -184,28 +163,6 @@ fn fours_next(
     let mut r = sums;
     for q in 0..n {
         let more = four_next(r, values, weights, from + q * 4, w + q * 4, between);
-        r = more;
-    }
-    r
-}
-
-// n fours of inputs, the weights of all three apart.
-fn fours_thirds(
-    sums: [f32; 8],
-    values: &[f32],
-    weights: &[f32],
-    from: usize,
-    w: usize,
-    between: usize,
-    n: usize,
-) -> [f32; 8]
-    requires { ⌜ OutputsFit (length (now values)) (length (now weights)) from w between 7 3 (n * 4) ⌝ }
-    ensures { λ r. ⌜ r ≡ tab 8 (λ i. sumFrom (at sums i) (n * 4)
-        (product (now (weights .entry)) (w + i * between) 3 (λ j. at (now (values .entry)) (from + j)))) ⌝ }
-{
-    let mut r = sums;
-    for q in 0..n {
-        let more = four_thirds(r, values, weights, from + q * 4, w + q * 12, between);
         r = more;
     }
     r
@@ -234,29 +191,6 @@ fn add_next(
     r
 }
 
-// The same where the weights of two inputs are three apart.
-fn add_thirds(
-    sums: [f32; 8],
-    values: &[f32],
-    weights: &[f32],
-    from: usize,
-    w: usize,
-    between: usize,
-    many: usize,
-) -> [f32; 8]
-    requires { ⌜ OutputsFit (length (now values)) (length (now weights)) from w between 7 3 many ⌝ }
-    ensures { λ r. ⌜ r ≡ tab 8 (λ i. sumFrom (at sums i) many
-        (product (now (weights .entry)) (w + i * between) 3 (λ j. at (now (values .entry)) (from + j)))) ⌝ }
-{
-    let n = many / 4;
-    let mut r = fours_thirds(sums, values, weights, from, w, between, n);
-    for j in n * 4..many {
-        let more = add_whole(r, weights, w + j * 3, between, values[from + j]);
-        r = more;
-    }
-    r
-}
-
 // Every input's product, one by one.
 fn add_each(
     sums: [f32; 8],
@@ -280,7 +214,8 @@ fn add_each(
     r
 }
 
-// Every input's product, in each of eight outputs. Kernel 1 and kernel 3, those of amplifier models, have ways of their own.
+// Every input's product, in each of eight outputs. Kernel 1 has a way of its own; of kernel 3 the weights of two inputs lie apart and have to be loaded
+// one by one all the same, and fours of inputs made it no faster.
 pub fn add_outputs(
     sums: [f32; 8],
     values: &[f32],
@@ -297,9 +232,6 @@ pub fn add_outputs(
 {
     if step == 1 {
         return add_next(sums, values, weights, from, w, between, many);
-    }
-    if step == 3 {
-        return add_thirds(sums, values, weights, from, w, between, many);
     }
     add_each(sums, values, weights, from, w, between, step, many)
 }

@@ -1,4 +1,4 @@
--- `sums::add_outputs` meets its contract. A way of its own is taken where its step is the one asked for. Assumes nothing.
+-- `sums::add_outputs` meets its contract. The way of kernel 1 is taken where the step is 1. Assumes nothing.
 use borrow.Author.Needs.{needs}
 use Rattle.sums.proofs.add_outputs.Statement.{statement}
 use Rattle.sums.proofs.add_outputs.Tie as tie
@@ -9,19 +9,13 @@ add-next-requires c κs = rw (c .if1 .taken) at (c .before .before .before .pre)
 returns : tie.Need-returns
 returns c = rw (c .before .if1 .taken) (c .add-next .ensures)
 
-add-thirds-requires : tie.Need-add-thirds-requires
-add-thirds-requires c κs = rw (c .if2 .taken) at (c .before .before .before .before .pre)
-
-returns-2 : tie.Need-returns-2
-returns-2 c = rw (c .before .if2 .taken) (c .add-thirds .ensures)
-
 add-each-requires : tie.Need-add-each-requires
 add-each-requires c κs = search needs
 
-returns-3 : tie.Need-returns-3
-returns-3 c = search needs
+returns-2 : tie.Need-returns-2
+returns-2 c = search needs
 
 pub add-outputs-spec : {M : Type 1} → statement M
 add-outputs-spec =
     tie.close
-    (tie.spec add-next-requires returns add-thirds-requires returns-2 add-each-requires returns-3)
+    (tie.spec add-next-requires returns add-each-requires returns-2)
