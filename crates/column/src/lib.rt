@@ -6,11 +6,18 @@ ghost use mathlib.Core.Logic.{_⊎_};
 ghost use Prim.Native.Nat.{ℕ, _+_, _*_, _≤_, _<_};
 ghost use lib.ListN.{length};
 ghost use lib.Ieee.{ofBits, binary32};
-ghost use Rattle.lists.specs.Tab.{at, tab, rows};
-ghost use Rattle.ring.specs.Memory.{past};
-ghost use Rattle.shape.specs.Counts.{InRange, ringLength, outputsPerGroup};
-ghost use Rattle.column.specs.Recurrence.{stepsBack, tapsFrom, output, remembered};
+ghost use Rattle.lists.specs.Tab.{at, rows};
+ghost use Rattle.shape.specs.Counts.{InRange, outputsPerGroup};
+ghost use Rattle.column.specs.Recurrence.{stepsBack, output, remembered};
 ghost use Rattle.column.specs.Fits.{PartsFit, GroupFits};
+
+pub mod lanes;
+
+use crate::lanes::start_eight;
+use crate::lanes::start_four;
+use crate::lanes::taps_eight;
+use crate::lanes::taps_four;
+use crate::lanes::taps_one;
 use ring::Ring;
 use shape::Shape;
 
@@ -28,161 +35,6 @@ pub fn steps_back(sh: Shape, k: usize) -> usize
     ensures { λ r. ⌜ r ≡ stepsBack sh k ⌝ }
 {
     (sh.kernel - 1 - k) * sh.dilation
-}
-
-// Eight biases next to each other. As eight is written out, the compiler loads four at once.
-fn eight_biases(weights: &[f32], from: usize) -> [f32; 8]
-    requires { ⌜ from + 8 ≤ length (now weights) ⌝ }
-    ensures { λ r. ⌜ r ≡ tab 8 (λ i. at (now (weights .entry)) (from + i)) ⌝ }
-{
-    let mut r = [0.0f32; 8];
-    for i in 0..8 {
-        r[i] = weights[from + i];
-    }
-    r
-}
-
-// Four biases next to each other.
-fn four_biases(weights: &[f32], from: usize) -> [f32; 4]
-    requires { ⌜ from + 4 ≤ length (now weights) ⌝ }
-    ensures { λ r. ⌜ r ≡ tab 4 (λ i. at (now (weights .entry)) (from + i)) ⌝ }
-{
-    let mut r = [0.0f32; 4];
-    for i in 0..4 {
-        r[i] = weights[from + i];
-    }
-    r
-}
-
-// What the sums of eight outputs start at.
-fn start_eight(weights: &[f32], biased: bool, from: usize) -> [f32; 8]
-    requires { ⌜ (biased ≡ true → from + 8 ≤ length (now weights)) ⌝ }
-    ensures { λ r. ⌜ r ≡ tab 8 (λ i. cond biased (at (now (weights .entry)) (from + i)) (ofBits binary32 0)) ⌝ }
-{
-    if biased {
-        eight_biases(weights, from)
-    } else {
-        [0.0f32; 8]
-    }
-}
-
-// What the sums of four outputs start at.
-fn start_four(weights: &[f32], biased: bool, from: usize) -> [f32; 4]
-    requires { ⌜ (biased ≡ true → from + 4 ≤ length (now weights)) ⌝ }
-    ensures { λ r. ⌜ r ≡ tab 4 (λ i. cond biased (at (now (weights .entry)) (from + i)) (ofBits binary32 0)) ⌝ }
-{
-    if biased {
-        four_biases(weights, from)
-    } else {
-        [0.0f32; 4]
-    }
-}
-
-// All taps of the eight outputs from o on, which are of group g, onto their sums. Read out of the history, where the column was pushed.
-fn taps_eight(
-    sums: [f32; 8],
-    history: &[f32],
-    weights: &[f32],
-    ring: Ring,
-    sh: Shape,
-    g: usize,
-    o: usize,
-) -> [f32; 8]
-    requires { ⌜ PartsFit sh (ring .at) (ring .len) (length (now history)) (length (now weights)) × GroupFits sh g o 8 ⌝ }
-    ensures { λ r. ⌜ r ≡ tab 8 (λ i. tapsFrom sh (now (weights .entry))
-        (past (sh .ins) (ringLength sh) (record { history = now (history .entry); place = ring .at })) (o + i) (sh .kernel) (at sums i)) ⌝ }
-{
-    let ins = sh.ins;
-    let kernel = sh.kernel;
-    let ipg = sh.inputs_per_group();
-    let base = g * ipg;
-    let between = ipg * kernel;
-    let w = o * between;
-    let mut r = sums;
-    for k in 0..kernel {
-        let back = steps_back(sh, k);
-        let column = ring.back(back);
-        let more = sums::add_outputs(
-            r,
-            history,
-            weights,
-            column * ins + base,
-            w + k,
-            between,
-            kernel,
-            ipg,
-        );
-        r = more;
-    }
-    r
-}
-
-// The same of four outputs.
-fn taps_four(
-    sums: [f32; 4],
-    history: &[f32],
-    weights: &[f32],
-    ring: Ring,
-    sh: Shape,
-    g: usize,
-    o: usize,
-) -> [f32; 4]
-    requires { ⌜ PartsFit sh (ring .at) (ring .len) (length (now history)) (length (now weights)) × GroupFits sh g o 4 ⌝ }
-    ensures { λ r. ⌜ r ≡ tab 4 (λ i. tapsFrom sh (now (weights .entry))
-        (past (sh .ins) (ringLength sh) (record { history = now (history .entry); place = ring .at })) (o + i) (sh .kernel) (at sums i)) ⌝ }
-{
-    let ins = sh.ins;
-    let kernel = sh.kernel;
-    let ipg = sh.inputs_per_group();
-    let base = g * ipg;
-    let between = ipg * kernel;
-    let w = o * between;
-    let mut r = sums;
-    for k in 0..kernel {
-        let back = steps_back(sh, k);
-        let column = ring.back(back);
-        let more = sums::add_four_outputs(
-            r,
-            history,
-            weights,
-            column * ins + base,
-            w + k,
-            between,
-            kernel,
-            ipg,
-        );
-        r = more;
-    }
-    r
-}
-
-// All taps of output o, which is of group g, onto its sum.
-fn taps_one(
-    sum: f32,
-    history: &[f32],
-    weights: &[f32],
-    ring: Ring,
-    sh: Shape,
-    g: usize,
-    o: usize,
-) -> f32
-    requires { ⌜ PartsFit sh (ring .at) (ring .len) (length (now history)) (length (now weights)) × GroupFits sh g o 1 ⌝ }
-    ensures { λ r. ⌜ r ≡ tapsFrom sh (now (weights .entry))
-        (past (sh .ins) (ringLength sh) (record { history = now (history .entry); place = ring .at })) o (sh .kernel) sum ⌝ }
-{
-    let ins = sh.ins;
-    let kernel = sh.kernel;
-    let ipg = sh.inputs_per_group();
-    let base = g * ipg;
-    let between = ipg * kernel;
-    let w = o * between;
-    let mut r = sum;
-    for k in 0..kernel {
-        let back = steps_back(sh, k);
-        let column = ring.back(back);
-        r = sums::add_output(r, history, weights, column * ins + base, w + k, kernel, ipg);
-    }
-    r
 }
 
 // The n outputs from o on, which are of group g: eight or four side by side, or one alone. An output's number is m places after that of the output before.
@@ -212,11 +64,11 @@ fn some_outputs(
     } else if n == 4 {
         let begun = start_four(weights, biased, from);
         let sums = taps_four(begun, history, weights, ring, sh, g, o);
-        sums::put_half(work, out + o * m, m, sums);
+        sums::few::put_half(work, out + o * m, m, sums);
     } else {
         let begun = start_eight(weights, biased, from);
         let sums = taps_eight(begun, history, weights, ring, sh, g, o);
-        sums::put(work, out + o * m, m, sums);
+        sums::eight::put(work, out + o * m, m, sums);
     }
 }
 

@@ -25,7 +25,7 @@ fn start(work: &mut [f32], weights: &[f32], out: usize, m: usize, n: usize, sh: 
     for o in 0..outs {
         let biased = sh.biased;
         let b = column::bias(weights, biased, count + o);
-        sums::flat(work, out + o * m, n, b);
+        sums::row::flat(work, out + o * m, n, b);
     }
 }
 
@@ -53,7 +53,7 @@ fn tap_group(
     for i in 0..opg {
         let o = g * opg + i;
         let kernel = sh.kernel;
-        sums::add_row(
+        sums::row::add_row(
             work,
             weights,
             out + o * m,
