@@ -3,10 +3,11 @@ use mathlib.Core.Path.{_≡_, refl, sym, _∙_, ap}
 use mathlib.Core.List.{List}
 use mathlib.Core.Logic.{⊎-elim}
 use Prim.Native.Nat.{ℕ, suc, _+_, _*_, _≤_, _<_}
-use native.Mathlib.Nat.{mul-le-mul-left, not-suc-le-zero, add-suc}
+use native.Mathlib.Nat.{mul-le-mul-left, not-suc-le-zero, add-suc, add-zero}
 use native.Mathlib.Omega.{arith}
 use lib.ListN.{length}
 use lib.Ieee.{Float, nan}
+use Rattle.lists.specs.Tab.{at, rows}
 use Rattle.lists.specs.Region.{Apart, Beside, Holds, Strip, Free, cell}
 use Rattle.lists.proofs.Nums.{row-end, le-or-lt}
 use Rattle.lists.proofs.Regions.{free-self, free-then, holds-free, holds-strip, strip-as, strip-free, strip-join, strip-holds}
@@ -18,6 +19,7 @@ use Rattle.column.specs.Recurrence.{output, remembered}
 use Rattle.conv.specs.Fits.{ConvFits, BlockFits}
 use Rattle.conv.specs.Does.{Convolved, Played}
 use Rattle.column.proofs.OneColumn.{parts-after}
+use Rattle.conv.proofs.Block.{column-is}
 
 -- the first t columns are done
 pub record Begun (sh : Shape) (weights : List Float) (m t x out rows : ℕ) (old : List Float) (s : Memory) (work : List Float) (s′ : Memory) : Type 0 where
@@ -97,3 +99,19 @@ module _ {sh : Shape} {place len m t nwork nweights x out rows : ℕ} {weights o
         memory = λ g held. p .memory (λ i. g (t + i)) (here g held) ∙ then g held n;
         others = free-then (b .others) (p .others) (λ i q. q) (λ i q. outside n i le q);
       }
+
+-- ---- a block of one column, played by itself
+module _ {sh : Shape} {place len nwork nweights x out rows′ : ℕ} (weights history old : List Float)
+    (f : ConvFits sh place len 1 nwork (length history) nweights x out rows′) (size : length old ≡ nwork) where
+  pub one-fits : BlockFits sh place len 1 1 nwork (length history) nweights x out rows′
+  one-fits =
+      let none = begun-none sh weights 1 x out rows′ old (record { history = history; place = place }) in
+      rw (add-zero x, add-zero out) at (part-fits f none 1 len nwork (omega arith) (omega arith) refl refl)
+
+  pub one-is : (work : List Float) (s′ : Memory) → s′ ≡ remembered sh (λ t c. at old (x + c * 1 + t)) (record { history = history; place = place }) 1
+      → work ≡ rows out 1 1 (sh .outs) (λ o t. output sh weights s′ o) old
+      → Convolved sh weights 1 x out rows′ old (record { history = history; place = place }) work s′
+  one-is work s′ e h =
+      let s : Memory = record { history = history; place = place } in
+      let played : Played sh weights 1 1 x out rows′ old s work s′ = column-is weights old work s s′ one-fits size e h in
+      begun-all (begun-more f (begun-none sh weights 1 x out rows′ old s) 1 work s′ (omega arith) (rw (add-zero x, add-zero out) played))

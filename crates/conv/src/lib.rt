@@ -212,9 +212,8 @@ fn part(
     columns(work, history, weights, x, out, rows, ring, sh, m, n)
 }
 
-// The block: m columns from region x through the convolution into region out; region rows is used up. The contract says what it comes to column by
-// column, as each would be pushed by itself.
-pub fn conv(
+// The block in parts.
+fn parts(
     work: &mut [f32],
     history: &mut [f32],
     weights: &[f32],
@@ -248,4 +247,27 @@ pub fn conv(
         t = t + n;
     }
     place
+}
+
+// The block: m columns from region x through the convolution into region out; region rows is used up. The contract says what it comes to column by
+// column, as each would be pushed by itself. A single column is asked for first: it needs nothing of what the parts make ready.
+pub fn conv(
+    work: &mut [f32],
+    history: &mut [f32],
+    weights: &[f32],
+    x: usize,
+    out: usize,
+    rows: usize,
+    ring: Ring,
+    sh: Shape,
+    m: usize,
+) -> Ring
+    requires { ⌜ ConvFits sh (ring .at) (ring .len) m (length (now work)) (length (now history)) (length (now weights)) x out rows ⌝ }
+    ensures { λ r. ⌜ Convolved sh (now (weights .entry)) m x out rows (now (work .entry)) (record { history = now (history .entry); place = ring .at }) (now (work .exit))
+        (record { history = now (history .exit); place = r .at }) × (r .len ≡ ring .len) ⌝ }
+{
+    if m == 1 {
+        return column::column(work, history, weights, x, out, ring, sh, 1);
+    }
+    parts(work, history, weights, x, out, rows, ring, sh, m)
 }
