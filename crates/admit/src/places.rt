@@ -34,6 +34,7 @@ impl Pass {
         ensures { λ r. ⌜ r ≡ passed (now (positions .entry)) self (part ∷ []) ⌝ }
     {
         match part {
+            // anew and not `self`: of a value handed on whole the compiler moves the padding too, in pieces that the next load has to wait for
             Part::Absent => Pass {
                 at: self.at,
                 beyond: self.beyond,

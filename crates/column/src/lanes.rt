@@ -8,7 +8,7 @@ ghost use lib.Ieee.{ofBits, binary32};
 ghost use Rattle.lists.specs.Tab.{at, tab};
 ghost use Rattle.ring.specs.Memory.{past};
 ghost use Rattle.shape.specs.Counts.{ringLength};
-ghost use Rattle.column.specs.Recurrence.{tapsFrom, output};
+ghost use Rattle.column.specs.Recurrence.{tapsFrom};
 ghost use Rattle.column.specs.Fits.{PartsFit, GroupFits};
 use crate::steps_back;
 use ring::Ring;

@@ -1,5 +1,6 @@
 // One column through a convolution: pushed, then its outputs taken, eight or four side by side where so many are left. Carries conv.rs
-// (`process_sample`). Document 01, 'The recurrence': start at the bias, or +0 without one; add product by product, tap 0 upward, within a tap local input 0 upward.
+// (`process_sample`). Document 01, 'The recurrence': start at the bias, or +0 without one; add product by product, tap 0 upward, within a tap local
+// input 0 upward.
 ghost use mathlib.Core.Path.{_≡_};
 ghost use mathlib.Core.Bool.{true, cond};
 ghost use mathlib.Core.Logic.{_⊎_};

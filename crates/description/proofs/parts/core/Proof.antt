@@ -1,5 +1,5 @@
 -- `core` picks slot k of the first four by its number, the last since k is below 4. Assumes nothing.
-use mathlib.Core.Path.{_≡_, _∙_}
+use mathlib.Core.Path.{_≡_}
 use borrow.Author.Needs.{needs}
 use Rattle.description.specs.Parts.{partOf, slotsOf}
 use Rattle.description.proofs.Reading.{past-zero, past-it, only}

@@ -6,7 +6,7 @@ use Rattle.layer.proofs.Past.{site-left-out}
 use Rattle.layer.proofs.Whole.{fits-on, result-le, behind, room5, room8, mixer-is}
 use mathlib.Core.Path.{refl, sym, _∙_}
 use mathlib.Core.Logic.{⊎-elim}
-use Prim.Native.Nat.{ℕ, _*_}
+use Prim.Native.Nat.{_*_}
 use native.Mathlib.Omega.{arith}
 use borrow.Author.Needs.{needs}
 use Rattle.layer.proofs.pieces.mixer.Statement.{statement}

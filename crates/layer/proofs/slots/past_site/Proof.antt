@@ -2,8 +2,7 @@
 use Rattle.description.proofs.Slots.{slot-fits}
 use Rattle.layer.proofs.Places.{slot-low, slot-next, low-more}
 use Rattle.layer.proofs.Asks.{no-site, past-none}
-use mathlib.Core.Path.{_≡_, sym, _∙_, ap}
-use Prim.Native.Nat.{_+_}
+use mathlib.Core.Path.{sym, _∙_}
 use native.Mathlib.Omega.{arith}
 use borrow.Author.Needs.{needs}
 use Rattle.layer.proofs.slots.past_site.Statement.{statement}
