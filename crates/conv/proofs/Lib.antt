@@ -1,4 +1,3 @@
 pub mod Rows
 pub mod Block
 pub mod Cuts
-pub mod Trace

@@ -3,7 +3,7 @@ use mathlib.Core.Path.{_≡_, refl, sym, _∙_, ap, subst}
 use mathlib.Core.Bool.{Bool, true, false, cond, not, _&&_}
 use mathlib.Core.List.{List, [], _∷_, _++_}
 use Prim.Native.Nat.{ℕ, zero, suc, _+_, _-_, _*_, _/_, _%_, _≤_, _<_}
-use native.Mathlib.Nat.{add-comm, div-add-mod, le-max-left, le-max-right, max-le}
+use native.Mathlib.Nat.{add-comm, le-max-left, le-max-right, max-le}
 use native.Mathlib.Numerals.{add-one}
 use native.Mathlib.Omega.{arith}
 use lib.Dec.{eqb, ltb}
@@ -189,10 +189,6 @@ module _ (d : List ℕ) (ok : refusalOf d ≡ 0) where
   pub layer-in-range : (l : ℕ) → l < layerCount d → LayerRanges (layerOf d l)
   layer-in-range l lt = layer-ranges d l (none-below (layerCount d) (breaksLayer d) layers-kept l lt)
 
-  -- a layer's record is read whole
-  pub layer-kept : (l : ℕ) → l < layerCount d → breaksLayer d l ≡ false
-  layer-kept l lt = none-below (layerCount d) (breaksLayer d) layers-kept l lt
-
   -- every part by its number: its shape is in range, and its groups divide
   pub slot-in-range : (l k : ℕ) → l < layerCount d → Fits (partOf (arrayOf d) (layerOf d l) k)
   slot-in-range l k lt = slot-fits array-in-range (layer-in-range l lt) k
@@ -203,9 +199,6 @@ module _ (d : List ℕ) (ok : refusalOf d ≡ 0) where
 
   pub part-divided : (i : ℕ) {sh : Shape} → getD (partsOf d) i Absent ≡ There sh → Divided sh
   part-divided i e = even-divided (part-even i) e
-
-  pub slot-divided : (l k : ℕ) → l < layerCount d → k < 12 → {sh : Shape} → partOf (arrayOf d) (layerOf d l) k ≡ There sh → Divided sh
-  slot-divided l k lt kt e = part-divided (1 + (12 * l + k)) (part-slot d l k lt kt ∙ e)
 
   pub part-in-range : (i : ℕ) → Fits (getD (partsOf d) i Absent)
   unfolding partsOf partsTo slotsOf partOf

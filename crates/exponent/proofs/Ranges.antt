@@ -52,9 +52,6 @@ magnitude-ordinary b h = ⊎-elim (λ l. omega (arith, magnitude-low b l)) (λ l
 
 -- ---- the power
 module _ (f : ℕ) (small : f < 2 ^ 24) where
-  pub factor-lt : 1488522236 + f * 2016986 / 2 ^ 24 < 1490539222
-  factor-lt = omega arith
-
   pub product-lt : f * (1488522236 + f * 2016986 / 2 ^ 24) < 2 ^ 55
   product-lt = omega (arith, mul-le-mul {n₁ = f} {m₁ = 1488522236 + f * 2016986 / 2 ^ 24} {n₂ = 16777215} {m₂ = 1490539221} (omega arith) (omega arith))
 

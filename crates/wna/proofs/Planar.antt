@@ -7,14 +7,10 @@ use native.Mathlib.Omega.{arith}
 use lib.Ieee.{Float, nan}
 use lib.ListN.{length}
 use Rattle.lists.specs.Tab.{at, fill, rows}
-use Rattle.lists.proofs.Tab.{at-tab, is-tab, length-tab}
+use Rattle.lists.proofs.Tab.{at-tab, is-tab}
 use Rattle.lists.proofs.Rows.{at-rows-in, length-rows, rows-more}
 use Rattle.lists.proofs.Nums.{cell-div, cell-lt, cell-mod, div-lt, pos-of-lt}
 use Rattle.wna.specs.Columns.{numberAt, planarOf, spreadOf}
-
-pub length-planar : (w n : ℕ) (f : ℕ → ℕ → Float) → length (planarOf w n f) ≡ w * n
-unfolding planarOf
-length-planar w n f = length-tab (w * n) _
 
 pub at-planar : (w n : ℕ) (f : ℕ → ℕ → Float) (c t : ℕ) → c < w → t < n → at (planarOf w n f) (c * n + t) ≡ f c t
 unfolding planarOf
