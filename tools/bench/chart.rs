@@ -53,7 +53,8 @@ impl Svg {
             for (k, v) in values.iter().enumerate() {
                 let tall = h * v.min(top) / top;
                 self.bar(left + 4.0 + 22.0 * k as f64, y + 22.0 + h - tall, 20.0, tall, COLOURS[1 + k]);
-                self.text(left + 14.0 + 22.0 * k as f64, y + 18.0 + h - tall, "middle", &format!("{v:.1}"));
+                let digits = if *v < 10.0 { 1 } else { 0 }; // beside each other there is no room for more
+                self.text(left + 14.0 + 22.0 * k as f64, y + 18.0 + h - tall, "middle", &format!("{v:.digits$}"));
             }
             self.text(left + 25.0, y + 36.0 + h, "middle", name);
         }
