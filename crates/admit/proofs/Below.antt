@@ -15,13 +15,8 @@ use Rattle.description.specs.Sizes.{placeAt, placeOf, positionsOf, total}
 use Rattle.description.specs.declared.parts.Part.{Part}
 use Rattle.description.specs.declared.parts.Part.the-variants.{Absent, There}
 use Rattle.description.proofs.Folds.{left-false, right-false}
+use Rattle.description.proofs.Slots.{not-absent, shape-of}
 use Rattle.array.specs.Refusals.{beyond}
-
-shape-of : {s t : Shape} → There s ≡ There t → s ≡ t
-shape-of e = cc
-
-not-absent : {P : Type 0} {t : Shape} → Absent ≡ There t → P
-not-absent e = absurd (let z : _≡_ {A = ℕ} 0 1 = cc in omega arith)
 
 -- the position of part i is the one after those of the parts before it
 abbrev positionOf : List Part → List ℕ → ℕ → ℕ

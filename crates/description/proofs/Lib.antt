@@ -4,7 +4,7 @@ pub mod Facts
 pub mod Folds
 pub mod Ranging
 pub mod Passing
-mod Reading
+pub mod Reading
 pub mod Slots
 pub mod Sound
 pub mod Totals

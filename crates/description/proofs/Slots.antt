@@ -19,10 +19,10 @@ use Rattle.description.specs.declared.records.ArrayRecord.{ArrayRecord}
 use Rattle.description.specs.declared.records.LayerRecord.{LayerRecord}
 use Rattle.description.specs.declared.parts.Part.the-variants.{Absent, There}
 
-shape-of : {s t : Shape} → There s ≡ There t → s ≡ t
+pub shape-of : {s t : Shape} → There s ≡ There t → s ≡ t
 shape-of e = cc
 
-not-absent : {P : Type 0} {t : Shape} → Absent ≡ There t → P
+pub not-absent : {P : Type 0} {t : Shape} → Absent ≡ There t → P
 not-absent e = absurd (let z : _≡_ {A = ℕ} 0 1 = cc in omega arith)
 
 pub fits-there : {s : Shape} → InRange s → Fits (There s)

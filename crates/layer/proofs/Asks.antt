@@ -1,6 +1,6 @@
 -- What a FiLM site and a convolution ask of a layer's buffers follows from what the layer asks. Assumes nothing.
 use mathlib.Core.Path.{_≡_, refl, sym, _∙_, ap}
-use mathlib.Core.Bool.{Bool, true, false, cond, not, _&&_, _||_, true≢false, false≢true}
+use mathlib.Core.Bool.{Bool, true, false, cond, not, _&&_, _||_, and-true, and-false, true≢false, false≢true}
 use borrow.Author.Tests.{eqb-true, eq-eqb}
 use mathlib.Core.List.{List}
 use Prim.Native.Nat.{ℕ, zero, suc, _+_, _-_, _*_, _≤_, _<_}
@@ -22,7 +22,7 @@ use Rattle.description.specs.declared.records.LayerRecord.{LayerRecord}
 use Rattle.description.specs.declared.parts.Part.{Part}
 use Rattle.description.specs.declared.parts.Part.the-variants.{Absent, There}
 use Rattle.description.specs.declared.places.Place.{Place}
-use Rattle.description.proofs.Slots.{slot-site}
+use Rattle.description.proofs.Slots.{slot-site, not-absent}
 use Rattle.slot.specs.Play.{PlayFits}
 use Rattle.slot.specs.Site.{SiteThere, SiteFits}
 use Rattle.layer.specs.Column.{isBlended, isThere, applies, appliedSite, site, site′, after}
@@ -64,14 +64,6 @@ either : (t b : Bool) → (t && not b) ≡ false → (not t || b) ≡ true
 either true true e = refl
 either true false e = absurd (true≢false e)
 either false b e = refl
-
-and-false : (b : Bool) → (b && false) ≡ false
-and-false true = refl
-and-false false = refl
-
-and-true : (b : Bool) → (b && true) ≡ b
-and-true true = refl
-and-true false = refl
 
 module _ (a : ArrayRecord) (r : LayerRecord) (i : ℕ) (b : Bool) (mode : b ≡ isBlended (r .mode)) where
   pub left-out : (eqb i 6 && not b) ≡ true → Absent ≡ appliedSite a r i
@@ -120,9 +112,6 @@ module _ (a : ArrayRecord) (r : LayerRecord) (i : ℕ) (b : Bool) (mode : b ≡ 
           rw (either (eqb i 6) b q, and-true (not (eqb g 0)), e)
           (there-unless (siteGroups (r .sites) i) _ ∙ ap isThere (site-part a r i (h .site-in) ∙ played h q))
 
-pub not-there : {A : Type 0} {sh : Shape} → Absent ≡ There sh → A
-not-there e = let z : _≡_ {A = ℕ} 0 1 = cc in absurd (omega arith)
-
 -- a part that is not there
 pub not-played : (p : Part) → false ≡ isThere p → p ≡ Absent
 not-played Absent e = refl
@@ -134,7 +123,7 @@ unfolding unless0
 shape-unless n s sh e = by (eqb n 0) e
   where
     by : (b : Bool) → cond b Absent (There s) ≡ There sh → s ≡ sh
-    by true e = not-there e
+    by true e = not-absent e
     by false e = cc
 
 module _ (a : ArrayRecord) (r : LayerRecord) (i : ℕ) (sh : Shape) (e : siteOf a r i ≡ There sh) where
@@ -290,4 +279,4 @@ module _ {a : ArrayRecord} {r : LayerRecord} {start : Place} {size m nwork : ℕ
             → SiteThere sh (bit (r .«shift_bits») i) (slotPlace a r start (4 + i)) (getD positions (slotPlace a r start (4 + i) .positions) 0) (siteWidth a r i) (a .condition) m nwork
             (length histories) (length positions) (length weights) (3 * size) to (9 * size) (11 * size)
         by sh e (as-is q) = site-there sh (sym q ∙ e)
-        by sh e (not-applied q) = not-there (sym q ∙ e)
+        by sh e (not-applied q) = not-absent (sym q ∙ e)

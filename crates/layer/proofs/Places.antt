@@ -103,16 +103,6 @@ module _ (a : ArrayRecord) (r : LayerRecord) where
 pub low-more : {place : Place} (n k : ℕ) → n ≤ k → Low n place → Low k place
 low-more n k h l = record { weights = omega (arith, l .weights); histories = omega (arith, l .histories); positions = omega (arith, l .positions) }
 
--- ---- a number that is none of those before k
-pub past-zero : {i : ℕ} → (i ≡ 0 → ⊥) → 1 ≤ i
-past-zero ne = omega arith
-
-pub past-it : {i : ℕ} (k : ℕ) → k ≤ i → (i ≡ k → ⊥) → k + 1 ≤ i
-past-it k le ne = omega arith
-
-pub only : {i k : ℕ} → k ≤ i → i < k + 1 → i ≡ k
-only le lt = omega arith
-
 -- ---- the struct of places
 module _ (a : ArrayRecord) (r : LayerRecord) (start : Place) (s : Slots) (first : s .conv ≡ start)
     (e1 : s .mixin ≡ slotPlace a r start 1)

@@ -1,5 +1,5 @@
 -- Each arm gives the place that its number names.
-use Rattle.layer.proofs.Places.{past-zero, past-it, only}
+use Rattle.description.proofs.Reading.{past-zero, past-it, only}
 use Rattle.layer.specs.Slots.{placeIn}
 use mathlib.Core.Path.{_≡_}
 use Rattle.layer.proofs.slots.Slots.place.Statement.{statement}
