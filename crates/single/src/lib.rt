@@ -1,5 +1,7 @@
 // f32 as document 01 uses it: a pattern of 32 bits to its value, with every NaN pattern as the one NaN, and a value to its pattern, with NaN as
 // 7fc00000. The toolchain's own two are undefined at a NaN, so both ask here first. Document 01, 'The layer array' (NaN as one value) and 'The program'.
+#![tactic(auto)]
+
 ghost use Rattle.std.specs.Prelude.{◌≡◌};
 ghost use Rattle.std.specs.Float.{binary32, nan};
 ghost use Rattle.std.specs.Float.Ieee.{of_bits, to_bits};

@@ -123,8 +123,12 @@ module _ {S A : Type 0} (next : ℕ → S → A → S) (out : ℕ → S → A �
             go i zero h = rw add-zero (omega arith)
             go i (suc d) h = rw add-suc (omega (arith, g.order (i + d) (omega (arith, h, add-suc i d)), go i d (omega (arith, h, add-suc i d))))
 
-    columns' : (j i : ℕ) → j ≤ N → i < e.reach j → (j < N → e.reach (suc j) ≤ i) → e.col i ≡ Col j i
+    -- a column that was taken is the recurrence's, one stage further
+    done : (q : ℕ) → q < c → e.col (b.reach (suc k) + q) ≡ Col (suc k) (b.reach (suc k) + q)
     unfolding column_at through
+    done q ql = t.column q ql ∙ rw (ran q (omega (arith, ql)), comes q ql)
+
+    columns' : (j i : ℕ) → j ≤ N → i < e.reach j → (j < N → e.reach (suc j) ≤ i) → e.col i ≡ Col j i
     columns' j i h l r = ⊎_elim
         (λ (lo : b.reach (suc k) ≤ i). ⊎_elim
         (λ (hi : b.reach (suc k) + c ≤ i). t.after_kept i hi ∙ kept_col j i h l r (inr hi))
@@ -133,9 +137,7 @@ module _ {S A : Type 0} (next : ℕ → S → A → S) (out : ℕ → S → A �
         let is : b.reach (suc k) + q ≡ i = omega (arith, lo) in
         let js = taken_is j i h l r lo hi in
         let ql : q < c = omega (arith, is, hi) in
-        let done : e.col (b.reach (suc k) + q) ≡ Col (suc k) (b.reach (suc k) + q) =
-        t.column q ql ∙ rw (ran q (omega (arith, ql)), comes q ql) in
-        rw js (rw is at done))
+        rw js (rw is at (done q ql)))
         (le_or_lt (b.reach (suc k) + c) i))
         (λ (lo : i < b.reach (suc k)). t.before_kept i lo ∙ kept_col j i h l r (inl lo))
         (le_or_lt (b.reach (suc k)) i)
