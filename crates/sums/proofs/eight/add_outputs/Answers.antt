@@ -1,0 +1,8 @@
+
+use Rattle.sums.proofs.eight.add_outputs.Goals as goal
+
+pub add_next-requires : goal.add_next-requires
+add_next-requires c = rw c.if-step-eq1.true at c.requires
+
+pub returns-then-step-eq1 : goal.returns-then-step-eq1
+returns-then-step-eq1 c = rw c.if-step-eq1.true c.add_next.ensures

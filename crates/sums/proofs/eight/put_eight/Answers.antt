@@ -1,0 +1,23 @@
+use mathlib.Core.Path.{◌≡◌, refl, sym}
+use Prim.Native.Nat.{◌+◌, ◌-◌}
+use native.Mathlib.Omega.{arith}
+use borrow.Author.Rules.{rules}
+use Rattle.lists.proofs.Fill.{fill_none}
+use Rattle.sums.proofs.Lanes.{others_turn, first_last}
+use Rattle.lists.specs.Tab.{at}
+use Rattle.sums.proofs.eight.put_eight.Goals as goal
+
+pub loop-i-init : goal.loop-i-init
+loop-i-init c = (search rules, search rules, search rules, sym (fill_none _ _ _))
+
+pub loop-i-preserved : goal.loop-i-preserved
+loop-i-preserved c =
+    let loop = c.loop-i in
+    let own : 1 + (loop.i - 1) ≡ loop.i = omega arith in
+    (search rules, search rules, search rules, others_turn _ loop.i _ _ _ _ loop.invariant.0 loop.invariant.3 (rw own))
+
+pub returns : goal.returns
+returns c =
+    let args = c.args in
+    let loop = c.loop-i in
+    let e : loop.i ≡ 8 = omega arith in first_last args.to 7 _ _ _ args.work.now (omega (arith, c.requires)) (rw e at loop.invariant.3) (λ k lt. refl)

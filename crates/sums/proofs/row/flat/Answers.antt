@@ -1,0 +1,18 @@
+use mathlib.Core.Path.{◌≡◌, refl, sym}
+use Prim.Native.Nat.{◌-◌}
+use native.Mathlib.Omega.{arith}
+use borrow.Author.Rules.{rules}
+use Rattle.lists.proofs.Fill.{fill_none, fill_turn}
+use Rattle.lists.specs.Tab.{at}
+use Rattle.sums.proofs.row.flat.Goals as goal
+
+pub loop-t-init : goal.loop-t-init
+loop-t-init c = (search rules, search rules, sym (fill_none _ _ _))
+
+pub loop-t-preserved : goal.loop-t-preserved
+loop-t-preserved c = (search rules, search rules, fill_turn _ _ _ _ _ _ c.loop-t.invariant.2 refl)
+
+pub returns : goal.returns
+returns c =
+    let loop = c.loop-t in
+    let e : loop.t ≡ c.args.n = omega arith in rw e at loop.invariant.2
