@@ -8,7 +8,7 @@ ghost use Rattle.activation.specs.Activated.{relu, leaky, sigmoid, activated};
 mod over;
 
 // An activation with its slope.
-#[derive(Drop)]
+#[derive(Clone, Copy)]
 pub enum Activation {
     Tanh,
     Relu,

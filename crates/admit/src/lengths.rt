@@ -12,7 +12,7 @@ pub const MOST_COLUMNS: usize = 1024;
 // Scratch holds this many regions of W x n numbers.
 pub const REGIONS: usize = 16;
 
-#[derive(Drop)]
+#[derive(Clone, Copy)]
 pub struct Lengths {
     pub weights: usize,
     pub histories: usize,

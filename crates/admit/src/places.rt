@@ -14,7 +14,7 @@ use description::parts::{Part, head_rechannel, rechannel, slot};
 use description::records::{ArrayRecord, LayerRecord, layer_record};
 
 // How far a pass over the parts has come: the place of the next position, and whether one before it lies beyond its ring.
-#[derive(Drop)]
+#[derive(Clone, Copy)]
 pub struct Pass {
     pub at: usize,
     pub beyond: bool,

@@ -1,5 +1,7 @@
 // Columns carried between planar buffers of different lengths, and numbers added in place: what layer.rs and array.rs do by slices and `zip`.
 // Document 01, 'The recurrence' (Planar, Layer).
+#![tactic(auto)]
+
 ghost use Rattle.std.specs.Prelude.{◌≡◌, ◌+◌, ◌*◌, ◌≤◌, length};
 ghost use Rattle.std.specs.Float.Ieee.{add};
 ghost use Rattle.std.specs.Float.{binary32};

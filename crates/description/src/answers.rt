@@ -5,7 +5,7 @@ ghost use Rattle.description.specs.Answers.{number_of};
 use crate::records::LayerRecord;
 
 // What follows from a description's numbers: widest is W, depth the memory depth.
-#[derive(Drop)]
+#[derive(Clone, Copy)]
 pub struct Sizes {
     pub weights: usize,
     pub histories: usize,
@@ -15,7 +15,7 @@ pub struct Sizes {
 }
 
 // A description's check: its refusal number, 1 to 5, or its sizes.
-#[derive(Drop)]
+#[derive(Clone, Copy)]
 pub enum Checked {
     Refused(u32),
     Sound(Sizes),
@@ -34,7 +34,7 @@ impl Checked {
 }
 
 // A layer's reading: its record, or that a number breaks its range or its zero rule.
-#[derive(Drop)]
+#[derive(Clone, Copy)]
 pub enum LayerAnswer {
     Broken,
     Read(LayerRecord),

@@ -10,7 +10,7 @@ use crate::records::{ArrayRecord, LayerRecord, Sites};
 use shape::Shape;
 
 // A slot of the list of parts.
-#[derive(Drop)]
+#[derive(Clone, Copy)]
 pub enum Part {
     Absent,
     There(Shape),

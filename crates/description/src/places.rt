@@ -5,7 +5,7 @@ ghost use Rattle.description.specs.Sizes.{past_of};
 
 use crate::parts::Part;
 
-#[derive(Drop)]
+#[derive(Clone, Copy)]
 pub struct Place {
     pub weights: usize,
     pub histories: usize,

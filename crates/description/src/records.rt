@@ -8,7 +8,7 @@ use activation::Activation;
 use gating::Mode;
 
 // The array's eight numbers.
-#[derive(Drop)]
+#[derive(Clone, Copy)]
 pub struct ArrayRecord {
     pub input: usize,
     pub condition: usize,
@@ -21,7 +21,7 @@ pub struct ArrayRecord {
 }
 
 // The groups of the FiLM sites 0 to 7, 0 where a site is absent.
-#[derive(Drop)]
+#[derive(Clone, Copy)]
 pub struct Sites {
     pub conv_pre: usize,
     pub conv_post: usize,
@@ -34,7 +34,7 @@ pub struct Sites {
 }
 
 // A layer's twenty-four numbers; an activation with its slope is one value.
-#[derive(Drop)]
+#[derive(Clone, Copy)]
 pub struct LayerRecord {
     pub bottleneck: usize,
     pub kernel: usize,

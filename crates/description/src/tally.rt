@@ -14,14 +14,14 @@ use crate::places::Place;
 use crate::records::{ArrayRecord, LayerRecord};
 
 // The place past some parts, and whether one of them is uneven.
-#[derive(Drop)]
+#[derive(Clone, Copy)]
 pub struct Counted {
     pub place: Place,
     pub uneven: bool,
 }
 
 // widest is W and depth the memory depth so far; unmatched says that refusal 4 is due.
-#[derive(Drop)]
+#[derive(Clone, Copy)]
 pub struct Tally {
     pub counted: Counted,
     pub unmatched: bool,

@@ -50,14 +50,14 @@ const TABLE: [u32; 256] = [
 ];
 
 // A signed number's quotient, rounded down, and its remainder, which is not negative: -1 by 256 is -1 and 255.
-#[derive(Drop)]
+#[derive(Clone, Copy)]
 pub struct Parts {
     pub quotient: i64,
     pub remainder: u64,
 }
 
 // 2^exponent times size, the size in 1 / 2^62.
-#[derive(Drop)]
+#[derive(Clone, Copy)]
 pub struct Power {
     pub exponent: i64,
     pub size: u64,

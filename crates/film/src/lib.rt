@@ -1,6 +1,8 @@
 // Feature-wise linear modulation of a region, by the scales and shifts that the convolved condition gives. Carries film.rs but for its convolution,
 // which is a call of `conv`. Document 01, 'The recurrence': scale and shift for one channel travel together; value = input x scale, then + shift only
 // where there is one.
+#![tactic(auto)]
+
 ghost use Rattle.std.specs.Prelude.{◌≡◌, true, ◌+◌, ◌≤◌, ◌<◌, length};
 ghost use Rattle.lists.specs.Tab.{at, fill};
 ghost use Rattle.lists.specs.Region.{Apart};
@@ -8,7 +10,7 @@ ghost use Rattle.film.specs.Modulated.{modulated, modulation_of, filmed};
 ghost use Rattle.film.specs.Fits.{FilmFits};
 
 // The scale of one number and its shift, where there is one.
-#[derive(Drop)]
+#[derive(Clone, Copy)]
 pub struct Modulation {
     pub scale: f32,
     pub shift: f32,

@@ -9,7 +9,7 @@ ghost use Rattle.gating.specs.Over.{GatingFits, GatedOver};
 use activation::Activation;
 
 // How a layer's two activations are joined.
-#[derive(Drop)]
+#[derive(Clone, Copy)]
 pub enum Mode {
     None,
     Gated,

@@ -11,7 +11,7 @@ use description::places::Place;
 use description::records::{ArrayRecord, LayerRecord};
 
 // Where the numbers of a layer's slots start, and where those of the next layer do.
-#[derive(Drop)]
+#[derive(Clone, Copy)]
 pub struct Slots {
     pub conv: Place,
     pub mixin: Place,

@@ -1,11 +1,13 @@
 // A place in a history, by value. Carries the ring of conv.rs (`ring_len`, `pos`). Document 01, 'The recurrence': the place in a history moves on by
 // one and comes back to zero at the ring length.
+#![tactic(auto)]
+
 ghost use Rattle.std.specs.Prelude.{◌≡◌, ◌<◌};
 ghost use Rattle.ring.specs.Place.{place_back};
 ghost use Rattle.ring.specs.Moved.{moved};
 
 // The place of the column pushed last, in a history of len columns.
-#[derive(Drop)]
+#[derive(Clone, Copy)]
 pub struct Ring {
     pub at: usize,
     pub len: usize,

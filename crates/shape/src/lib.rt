@@ -1,10 +1,12 @@
 // The shape of a convolution, and the counts that follow from it. Carries the sizes of conv.rs (Conv1d's fields, `new_grouped`). Document 01,
 // 'Description': groups, ring length, counts of weights and histories.
+#![tactic(auto)]
+
 ghost use Rattle.std.specs.Prelude.{◌≡◌, ◌/◌, ◌<◌};
 ghost use Rattle.shape.specs.Counts.{InRange, ring_length, inputs_per_group, outputs_per_group, kernel_count, weight_count, history_count};
 
 // in, out, kernel, dilation, groups, and whether there is a bias.
-#[derive(Drop)]
+#[derive(Clone, Copy)]
 pub struct Shape {
     pub ins: usize,
     pub outs: usize,

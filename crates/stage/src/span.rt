@@ -1,5 +1,5 @@
 // Which columns a turn takes: `count` from `from` on, of a block of n. Scratch has sixteen regions of `size` numbers.
-#[derive(Drop)]
+#[derive(Clone, Copy)]
 pub struct Span {
     pub size: usize,
     pub n: usize,

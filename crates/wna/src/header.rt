@@ -11,7 +11,7 @@ pub const LARGEST_BLOCK: usize = 1024;
 
 pub const HEADER_LENGTH: usize = 15;
 
-#[derive(Drop)]
+#[derive(Clone, Copy)]
 pub struct Header {
     pub block: usize,
     pub count: usize,
@@ -19,7 +19,7 @@ pub struct Header {
 }
 
 // A header's reading: its refusal number, 10 or 11, or its numbers.
-#[derive(Drop)]
+#[derive(Clone, Copy)]
 pub enum HeaderAnswer {
     Refused(u32),
     Whole(Header),

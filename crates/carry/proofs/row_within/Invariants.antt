@@ -1,0 +1,14 @@
+use Rattle.lists.specs.Region.{Apart}
+use Rattle.lists.specs.Tab.{at, fill}
+use mathlib.Core.Path.{◌≡◌}
+use Prim.Native.Nat.{◌+◌, ◌-◌, ◌≤◌}
+use lib.ListN.{length}
+use Rattle.carry.proofs.row_within.Given as goal
+
+abbrev pub invariant-loop-t : goal.invariant-loop-t
+invariant-loop-t l =
+    (l.t ≤ l.m) × (length l.work ≡ length l.initial.work) × (l.to + l.m ≤ length l.initial.work) × (l.from + l.m ≤ length l.initial.work) × Apart l.to l.m l.from l.m
+    × (l.work ≡ fill l.to l.t (λ t. at l.initial.work (l.from + t)) l.initial.work)
+
+abbrev pub decreases-loop-t : goal.decreases-loop-t
+decreases-loop-t l = l.m - l.t

@@ -1,0 +1,15 @@
+use mathlib.Core.Path.{◌≡◌}
+use Prim.Native.Nat.{◌-◌, ◌≤◌}
+use lib.ListN.{length}
+use Rattle.film.specs.Fits.{FilmFits}
+use Rattle.film.specs.Modulated.{filmed}
+use Rattle.lists.specs.Tab.{fill}
+use Rattle.film.proofs.process_in_place.Given as goal
+
+abbrev pub invariant-loop-i : goal.invariant-loop-i
+invariant-loop-i l =
+    (l.i ≤ l.n) × (length l.work ≡ length l.initial.work) × FilmFits (length l.initial.work) l.to l.s l.n l.shifted
+    × (l.work ≡ fill l.to l.i (filmed l.shifted l.s l.n l.initial.work l.to) l.initial.work)
+
+abbrev pub decreases-loop-i : goal.decreases-loop-i
+decreases-loop-i l = l.n - l.i
