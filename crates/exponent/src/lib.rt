@@ -3,6 +3,8 @@
 //
 // The ordinary values, |x| below 87, take one path without a branch: one comparison tells them, and all others are left to seldom. An array that is a
 // constant is made anew wherever it is read, so the table is lent: whoever loops keeps one and calls exp_by.
+#![tactic(auto)]
+
 ghost use Rattle.std.specs.Prelude.{◌≡◌, ◌+◌, ◌*◌, ◌%◌, ◌^◌, ◌<◌};
 ghost use Rattle.std.specs.Int.Signed.{mag};
 ghost use Rattle.std.specs.Float.{binary32};

@@ -1,0 +1,31 @@
+use mathlib.Core.Logic.{⊎_elim}
+use lib.Dec.{lit<}
+use Rattle.single.proofs.Nan.{nan_pattern}
+use lib.Ieee.{of_bits, nan_bits, binary32}
+use Rattle.exponent.proofs.Guards.{at_nan, at_high, at_low, at-positive, at_negative}
+use mathlib.Core.Path.{sym, ◌∙◌, ap}
+use native.Mathlib.Omega.{arith}
+use Rattle.exponent.proofs.seldom.Goals as goal
+
+pub returns-then-a-gt2139095040 : goal.returns-then-a-gt2139095040
+returns-then-a-gt2139095040 c = c.not_a_number.ensures ∙ sym (nan_pattern 0x7fc0_0000 (lit< tt)) ∙ ap (of_bits binary32) (sym (at_nan c.args.bits c.if-a-gt2139095040.true))
+
+pub float_from_bits-result : goal.float_from_bits-result
+unfolding nan_bits
+float_from_bits-result c = tt
+
+pub returns-then-a-ge1118961664 : goal.returns-then-a-ge1118961664
+returns-then-a-ge1118961664 c = ap (of_bits binary32) (sym (at_high c.args.bits c.if-a-gt2139095040.false c.if-bits-lt2147483648.true c.if-a-ge1118961664.true))
+
+pub float_from_bits-result-then-a-ge1120927744 : goal.float_from_bits-result-then-a-ge1120927744
+unfolding nan_bits
+float_from_bits-result-then-a-ge1120927744 c = tt
+
+pub returns-then-a-ge1120927744 : goal.returns-then-a-ge1120927744
+returns-then-a-ge1120927744 c = ap (of_bits binary32) (sym (at_low c.args.bits c.if-a-gt2139095040.false c.if-bits-lt2147483648.false c.if-a-ge1120927744.true))
+
+pub edge-requires : goal.edge-requires
+edge-requires c = (c.requires, ⊎_elim (λ w. omega arith) (λ w. omega arith) c.if-bits-lt2147483648.branch)
+
+pub returns : goal.returns
+returns c = c.edge.ensures ∙ ap (of_bits binary32) (sym (⊎_elim (λ w. at-positive c.args.bits w.0.taken w.1.left) (λ w. at_negative c.args.bits w.0.left w.1.left) c.if-bits-lt2147483648.branch))
