@@ -19,7 +19,7 @@ use Rattle.exponent.specs.Exp.{positive}
 use Rattle.exponent.specs.Split.{parts, Splits}
 
 pub back : (z : ℤ) → mag z < 2 ^ 63 → to_z w64 (of_z w64 z) ≡ z
-back z h = to_z-of_z (record { sfits = h })
+back z h = to_z-of_z {w = w64} (record { sfits = h })
 
 -- a - b where b is no larger
 sub_is : (a b : ℕ) → b ≤ a → sub_ℕ a b ≡ pos (a - b)

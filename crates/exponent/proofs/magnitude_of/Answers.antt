@@ -1,12 +1,9 @@
-use mathlib.Core.Logic.{⊎_elim}
 use Rattle.exponent.specs.Exp.{magnitude}
 use Rattle.exponent.proofs.Ranges.{shift_far}
 use native.Mathlib.Omega.{arith}
 use Rattle.exponent.proofs.magnitude_of.Goals as goal
-
-pub overflow_shr-result : goal.overflow_shr-result
-overflow_shr-result c = ⊎_elim (λ w. omega arith) (λ w. omega arith) c.if-long-lt63.branch
+use Rattle.exponent.proofs.magnitude_of.Goals.{then-long-lt63, else-long-lt63}
 
 pub returns : goal.returns
 unfolding magnitude
-returns c = ⊎_elim (λ w. rw w.1) (λ w. rw w.1 (shift_far _ _ (omega arith) w.0.left)) c.if-long-lt63.branch
+returns c = elim c.if-long-lt63.branch [ then-long-lt63 w ↦ rw w.shift-is | else-long-lt63 w ↦ rw w.shift-is (shift_far _ _ (omega arith) w.if-long-lt63.false) ]
