@@ -1,5 +1,5 @@
 -- Rows without gaps lie end to end: w rows of m are one row of w * m. Assumes nothing.
-use mathlib.Core.Path.{◌≡◌, sym, ◌∙◌}
+use mathlib.Core.Path.{◌≡◌, ◌∙◌}
 use mathlib.Core.List.{List}
 use Prim.Native.Nat.{ℕ, zero, suc, ◌+◌, ◌*◌}
 use native.Mathlib.Nat.{zero-mul, suc-mul}

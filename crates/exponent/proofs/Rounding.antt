@@ -12,7 +12,7 @@ use mir.Val.{SFits, to_z, of_z}
 use mir.Facts.{to_z-of_z}
 use Rattle.lists.proofs.Nums.{le_or_lt}
 use Rattle.exponent.specs.Split.{parts}
-use Rattle.exponent.specs.Exp.{nearest, positive, magnitude, scaled, raised, between, exp_bits}
+use Rattle.exponent.specs.Exp.{nearest, positive, scaled, raised, between, exp_bits}
 use Rattle.exponent.specs.declared.Power.{Power}
 use Rattle.exponent.proofs.Signed.{back, mag_add, mag_negℤ, positive_is, remainder_lt}
 use Rattle.exponent.proofs.Ranges.{shift_le, magnitude-between, magnitude_ordinary, mag_scaled, power_lt}

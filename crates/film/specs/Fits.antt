@@ -1,5 +1,5 @@
 -- What the places have to be: n numbers at `to`, n scales at s, and after them n shifts where there are any.
-use Rattle.std.specs.Prelude.{◌≡◌, Bool, true, ℕ, ◌+◌, ◌≤◌, min, max}
+use Rattle.std.specs.Prelude.{◌≡◌, Bool, true, ℕ, ◌+◌, ◌≤◌}
 use Rattle.lists.specs.Region.{Apart}
 
 pub record FilmFits (nwork to s n : ℕ) (shifted : Bool) : Type 0 where

@@ -3,7 +3,7 @@ use mathlib.Core.Path.{◌≡◌, refl}
 use mathlib.Core.List.{[], ◌∷◌, map}
 use Prim.Native.Nat.{ℕ, ◌+◌, ◌*◌}
 use lib.Ieee.{Float, binary32, of_bits, to_bits}
-use Rattle.lists.specs.Tab.{at, tab, fill}
+use Rattle.lists.specs.Tab.{tab, fill}
 use Rattle.ring.specs.Place.{next_place, place_back}
 use Rattle.ring.specs.Memory.{Memory, push, past, after}
 

@@ -1,5 +1,5 @@
 -- The counts that follow from a convolution's shape. Document 01, 'Description'.
-use Rattle.std.specs.Prelude.{cond, ℕ, ◌+◌, ◌-◌, ◌*◌, ◌/◌, ◌≤◌, ◌<◌}
+use Rattle.std.specs.Prelude.{cond, ℕ, ◌+◌, ◌-◌, ◌*◌, ◌/◌, ◌≤◌}
 use Rattle.shape.specs.declared.Shape.{Shape}
 
 -- ring length = (kernel - 1) x dilation + 1

@@ -1,5 +1,5 @@
 -- Groups divide both sides of their convolution. Document 01, 'Description'.
-use Rattle.std.specs.Prelude.{◌≡◌, ℕ, ◌%◌}
+use Rattle.std.specs.Prelude.{◌≡◌, ◌%◌}
 use Rattle.shape.specs.declared.Shape.{Shape}
 
 pub record Divided (sh : Shape) : Type 0 where

@@ -1,11 +1,11 @@
 -- NaN and its patterns, as the two tests of the code have them. Assumes nothing.
-use mathlib.Core.Path.{◌≡◌, refl, sym, ◌∙◌, ap, subst}
+use mathlib.Core.Path.{◌≡◌, refl, sym, ◌∙◌, subst}
 use mathlib.Core.Bool.{Bool, true, false, not}
 use Prim.Native.Nat.{ℕ, ◌%◌, ◌<◌, ◌≤◌}
-use lib.Dec.{T, ltb}
+use lib.Dec.{T}
 use lib.Ieee.{Float, nan, inf, fin, binary32, of_bits, nan_bits, is_nan, ne}
 use lib.Ieee.Bits.{nan_bits_is, nan_bits_above}
-use lib.Ieee.Compare.{differs_from_itself, nan_differs}
+use lib.Ieee.Compare.{differs_from_itself}
 use borrow.Author.Tests.{lt-ltb, le-ltb}
 
 is_nan_pattern : (x : Float) → is_nan x ≡ true → x ≡ nan

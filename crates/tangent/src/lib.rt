@@ -3,6 +3,8 @@
 //
 // The ordinary values, |x| between 2^-13 and 10, take one path without a branch; all others are left to seldom. An array that is a constant is made
 // anew wherever it is read, so the rows are lent: whoever loops keeps them and calls tanh_by.
+#![tactic(auto)]
+
 ghost use Rattle.std.specs.Prelude.{◌≡◌, ◌+◌, ◌%◌, ◌^◌, ◌≤◌, ◌<◌, min};
 ghost use Rattle.std.specs.Int.Signed.{mag};
 ghost use Rattle.std.specs.Float.{binary32};

@@ -1,8 +1,8 @@
 -- Any turns in which no stage passes the one before come to the same as column by column. Assumes nothing.
-use mathlib.Core.Path.{◌≡◌, refl, sym, ◌∙◌, ap}
+use mathlib.Core.Path.{◌≡◌, sym, ◌∙◌}
 use mathlib.Core.Logic.{◌⊎◌, inl, inr, ⊎_elim}
 use Prim.Native.Nat.{ℕ, zero, suc, ◌+◌, ◌-◌, ◌≤◌, ◌<◌}
-use native.Mathlib.Nat.{lt_of_not-le, eq-or-lt_of_le, not-suc-le-zero, add-suc, add-zero, zero-add}
+use native.Mathlib.Nat.{lt_of_not-le, eq-or-lt_of_le, not-suc-le-zero, add-suc, add-zero}
 use native.Mathlib.Decide.{dec_le}
 use native.Mathlib.Omega.{arith}
 use Rattle.turns.specs.Grid.{through, stepped}

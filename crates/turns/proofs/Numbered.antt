@@ -1,8 +1,8 @@
 -- The recurrence with its columns numbered, which is how turns speak of them, is the recurrence over their list. And columns joined end to end.
 -- Assumes nothing.
-use mathlib.Core.Path.{◌≡◌, refl, sym, ◌∙◌, ap}
+use mathlib.Core.Path.{◌≡◌, refl, ◌∙◌, ap}
 use mathlib.Core.List.{List, [], ◌∷◌, ◌++◌}
-use Prim.Native.Nat.{ℕ, zero, suc, ◌+◌, ◌<◌}
+use Prim.Native.Nat.{ℕ, zero, suc}
 use Rattle.turns.specs.Grid.{through, stepped, states_after, columns_after}
 
 module _ {S A : Type 0} (next : ℕ → S → A → S) (out : ℕ → S → A → A) where

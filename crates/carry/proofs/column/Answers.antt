@@ -1,9 +1,7 @@
 use native.Mathlib.Nat.{add-zero}
-use Rattle.lists.specs.Tab.{at}
 use Rattle.lists.proofs.Nums.{row_end}
 use Rattle.lists.proofs.Rows.{rows_none, rows-cell}
 use mathlib.Core.Path.{◌≡◌}
-use Prim.Native.Nat.{◌-◌}
 use native.Mathlib.Omega.{arith}
 use borrow.Author.Rules.{rules}
 use Rattle.carry.proofs.column.Goals as goal

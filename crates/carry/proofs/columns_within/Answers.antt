@@ -1,8 +1,5 @@
-use borrow.Author.Tests.{eqb-true}
-use Rattle.lists.specs.Tab.{at}
 use Rattle.carry.proofs.Joined.{joined}
 use mathlib.Core.Path.{◌≡◌}
-use Prim.Native.Nat.{◌-◌}
 use native.Mathlib.Omega.{arith}
 use Rattle.carry.proofs.columns_within.Goals as goal
 

@@ -1,7 +1,5 @@
 use Rattle.lists.proofs.Fill.{fill_none, fill_turn}
-use Rattle.lists.specs.Tab.{at}
 use mathlib.Core.Path.{◌≡◌, refl, sym}
-use Prim.Native.Nat.{◌-◌}
 use native.Mathlib.Omega.{arith}
 use borrow.Author.Rules.{rules}
 use Rattle.carry.proofs.row.Goals as goal

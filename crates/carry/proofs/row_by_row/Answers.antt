@@ -1,8 +1,6 @@
 use Rattle.lists.proofs.Rows.{rows_none, rows_more}
 use Rattle.lists.proofs.Nums.{row_end}
-use Rattle.lists.specs.Tab.{at}
 use mathlib.Core.Path.{◌≡◌, refl}
-use Prim.Native.Nat.{◌-◌}
 use native.Mathlib.Omega.{arith}
 use borrow.Author.Rules.{rules}
 use Rattle.carry.proofs.row_by_row.Goals as goal

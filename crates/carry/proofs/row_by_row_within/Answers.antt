@@ -1,9 +1,7 @@
 use Rattle.carry.proofs.Read.{old_there}
 use Rattle.lists.proofs.Rows.{rows_none, rows_more}
 use Rattle.lists.proofs.Nums.{row_end}
-use Rattle.lists.specs.Tab.{at}
 use mathlib.Core.Path.{◌≡◌}
-use Prim.Native.Nat.{◌-◌}
 use native.Mathlib.Omega.{arith}
 use borrow.Author.Rules.{rules}
 use Rattle.carry.proofs.row_by_row_within.Goals as goal

@@ -1,7 +1,6 @@
 use Rattle.lists.proofs.Fill.{fill_none, fill_turn, fill_apart}
-use Rattle.lists.specs.Tab.{at}
 use mathlib.Core.Path.{◌≡◌, sym}
-use Prim.Native.Nat.{◌+◌, ◌-◌}
+use Prim.Native.Nat.{◌+◌}
 use native.Mathlib.Omega.{arith}
 use lib.Ieee.{nan}
 use borrow.Author.Rules.{rules}

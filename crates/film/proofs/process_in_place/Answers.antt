@@ -1,10 +1,8 @@
 use mathlib.Core.Path.{◌≡◌, sym}
-use Prim.Native.Nat.{◌-◌}
 use native.Mathlib.Omega.{arith}
 use borrow.Author.Rules.{rules}
 use Rattle.film.proofs.Turn.{film_turn}
 use Rattle.lists.proofs.Fill.{fill_none, fill_turn}
-use Rattle.lists.specs.Tab.{at}
 use Rattle.film.proofs.process_in_place.Goals as goal
 
 pub loop-i-init : goal.loop-i-init

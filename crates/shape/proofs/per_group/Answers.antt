@@ -1,6 +1,5 @@
 use native.Mathlib.Nat.{div-one}
 use mathlib.Core.Path.{sym}
-use Prim.Native.Nat.{◌-◌}
 use Rattle.shape.proofs.per_group.Goals as goal
 
 pub returns-then-groups-eq1 : goal.returns-then-groups-eq1

@@ -1,7 +1,7 @@
-use Rattle.shape.specs.Counts.{ring_length, history_count}
+use Rattle.shape.specs.Counts.{history_count}
 use Rattle.shape.proofs.Bounds.{history_le}
 use mathlib.Core.Path.{ap}
-use Prim.Native.Nat.{ℕ, ◌*◌, ◌-◌}
+use Prim.Native.Nat.{ℕ, ◌*◌}
 use native.Mathlib.Omega.{arith}
 use Rattle.shape.proofs.Shape.history_count.Goals as goal
 

@@ -1,6 +1,5 @@
 use Rattle.shape.specs.Counts.{kernel_count}
 use Rattle.shape.proofs.Bounds.{sides_le, product_le}
-use Prim.Native.Nat.{◌-◌}
 use native.Mathlib.Omega.{arith}
 use Rattle.shape.proofs.Shape.kernel_count.Goals as goal
 

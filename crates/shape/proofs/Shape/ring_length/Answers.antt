@@ -1,7 +1,6 @@
 use Rattle.shape.specs.Counts.{ring_length}
 use Rattle.shape.proofs.Bounds.{reach_le}
 use mathlib.Core.Path.{refl}
-use Prim.Native.Nat.{◌-◌}
 use native.Mathlib.Omega.{arith}
 use Rattle.shape.proofs.Shape.ring_length.Goals as goal
 

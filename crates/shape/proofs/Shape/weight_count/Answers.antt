@@ -2,7 +2,6 @@ use native.Mathlib.Nat.{add-zero}
 use Rattle.shape.specs.Counts.{weight_count}
 use Rattle.shape.proofs.Bounds.{kernel_le}
 use mathlib.Core.Path.{sym}
-use Prim.Native.Nat.{◌-◌}
 use native.Mathlib.Omega.{arith}
 use Rattle.shape.proofs.Shape.weight_count.Goals as goal
 

@@ -1,4 +1,3 @@
-
 use Rattle.sums.proofs.eight.add_outputs.Goals as goal
 
 pub add_next-requires : goal.add_next-requires

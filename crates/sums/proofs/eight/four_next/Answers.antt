@@ -1,5 +1,5 @@
 use mathlib.Core.Path.{◌≡◌, ◌∙◌, ap}
-use Prim.Native.Nat.{ℕ, ◌+◌, ◌*◌, ◌-◌}
+use Prim.Native.Nat.{ℕ, ◌+◌, ◌*◌}
 use native.Mathlib.Omega.{arith}
 use lib.ListN.{length}
 use lib.Ieee.{nan}
@@ -7,7 +7,6 @@ use borrow.Author.Rules.{rules}
 use Rattle.lists.proofs.Tab.{length-tab, tab_ext}
 use Rattle.sums.specs.Product.{product}
 use Rattle.sums.proofs.Lanes.{lanes_none, lanes_more}
-use Rattle.lists.specs.Tab.{at}
 use Rattle.sums.proofs.eight.four_next.Goals as goal
 
 pub loop-j-init : goal.loop-j-init

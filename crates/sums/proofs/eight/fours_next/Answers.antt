@@ -1,12 +1,11 @@
 use mathlib.Core.Path.{◌≡◌, ◌∙◌, ap}
-use Prim.Native.Nat.{ℕ, ◌+◌, ◌*◌, ◌-◌}
+use Prim.Native.Nat.{ℕ, ◌+◌, ◌*◌}
 use native.Mathlib.Omega.{arith}
 use lib.ListN.{length}
 use borrow.Author.Rules.{rules}
 use Rattle.lists.proofs.Tab.{length-tab}
 use Rattle.sums.specs.Product.{product}
 use Rattle.sums.proofs.Lanes.{lanes_none, lanes_join, outputs_part}
-use Rattle.lists.specs.Tab.{at}
 use Rattle.sums.proofs.eight.fours_next.Goals as goal
 
 pub loop-q-init : goal.loop-q-init

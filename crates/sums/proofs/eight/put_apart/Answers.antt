@@ -1,9 +1,7 @@
 use mathlib.Core.Path.{◌≡◌, refl}
-use Prim.Native.Nat.{◌-◌}
 use native.Mathlib.Omega.{arith}
 use borrow.Author.Rules.{rules}
 use Rattle.lists.proofs.Rows.{rows_none, rows-cell}
-use Rattle.lists.specs.Tab.{at}
 use Rattle.sums.proofs.eight.put_apart.Goals as goal
 
 pub loop-i-init : goal.loop-i-init

@@ -1,10 +1,8 @@
 use mathlib.Core.Path.{◌≡◌, sym, ◌∙◌}
-use Prim.Native.Nat.{◌-◌}
 use native.Mathlib.Omega.{arith}
 use lib.Ieee.{nan}
 use borrow.Author.Rules.{rules}
 use Rattle.lists.proofs.Fill.{fill_none, fill_step, fill_apart, fill_all}
-use Rattle.lists.specs.Tab.{at}
 use Rattle.sums.proofs.few.add_half.Goals as goal
 
 pub loop-i-init : goal.loop-i-init

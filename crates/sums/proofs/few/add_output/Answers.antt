@@ -1,8 +1,6 @@
 use mathlib.Core.Path.{◌≡◌, sym}
-use Prim.Native.Nat.{◌-◌}
 use native.Mathlib.Omega.{arith}
 use borrow.Author.Rules.{rules}
-use Rattle.lists.specs.Tab.{at}
 use Rattle.sums.specs.Product.{product}
 use Rattle.single.proofs.Sum.{sum_none, sum_more}
 use Rattle.sums.proofs.few.add_output.Goals as goal

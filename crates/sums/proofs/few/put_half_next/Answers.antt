@@ -4,7 +4,6 @@ use native.Mathlib.Omega.{arith}
 use borrow.Author.Rules.{rules}
 use Rattle.lists.proofs.Fill.{fill_none}
 use Rattle.sums.proofs.Lanes.{others_turn, first_last}
-use Rattle.lists.specs.Tab.{at}
 use Rattle.sums.proofs.few.put_half_next.Goals as goal
 
 pub loop-i-init : goal.loop-i-init

@@ -1,9 +1,7 @@
 use mathlib.Core.Path.{◌≡◌, refl, sym}
-use Prim.Native.Nat.{◌-◌}
 use native.Mathlib.Omega.{arith}
 use borrow.Author.Rules.{rules}
 use Rattle.lists.proofs.Fill.{fill_none, fill_turn}
-use Rattle.lists.specs.Tab.{at}
 use Rattle.sums.proofs.row.flat.Goals as goal
 
 pub loop-t-init : goal.loop-t-init

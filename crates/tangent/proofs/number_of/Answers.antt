@@ -1,0 +1,21 @@
+use mathlib.Core.Path.{refl}
+use mir.Syntax.{w32}
+use mir.Val.{SFits}
+use mir.Facts.{to_z-of_z, sfits_widen}
+use Rattle.tangent.specs.Tanh.{number}
+use Rattle.tangent.proofs.Steps.{number_small}
+use Rattle.tangent.proofs.number_of.Goals as goal
+
+pub overflow_cast-result : goal.overflow_cast-result
+unfolding number
+overflow_cast-result c =
+    let s = number_small c.args.i c.args.k c.requires.1 c.requires.2 in
+    let f : SFits w32 (number c.args.i c.args.k) = record { sfits = s } in
+    rw (c.requires.0, to_z-of_z f) (sfits_widen tt f)
+
+pub returns : goal.returns
+unfolding number
+returns c =
+    let s = number_small c.args.i c.args.k c.requires.1 c.requires.2 in
+    let f : SFits w32 (number c.args.i c.args.k) = record { sfits = s } in
+    rw (c.requires.0, to_z-of_z f, to_z-of_z (sfits_widen tt f)) (refl, s)
