@@ -1,5 +1,7 @@
 // Carries activation.rs. Document 01, 'The recurrence' (ReLU, LeakyReLU, Sigmoid), 'Tanh and exp', and the form "an activation with its slope is one
 // value".
+#![tactic(auto)]
+
 ghost use Rattle.std.specs.Prelude.{◌≡◌, ◌+◌, ◌≤◌, length};
 ghost use Rattle.lists.specs.Tab.{at, fill};
 ghost use Rattle.exponent.specs.Table.{table};
