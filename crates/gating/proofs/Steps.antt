@@ -1,19 +1,19 @@
 -- The passes over the buffer, one after the other, come to the formulas of gating. Assumes nothing.
-use mathlib.Core.Path.{◌≡◌, refl, sym, ◌∙◌, ap}
+use mathlib.Core.Path.{◌≡◌, refl, ◌∙◌, ap}
 use mathlib.Core.List.{List}
-use Prim.Native.Nat.{ℕ, ◌+◌, ◌-◌, ◌*◌, ◌≤◌, ◌<◌, min, max}
+use Prim.Native.Nat.{ℕ, ◌+◌, ◌*◌, ◌≤◌, ◌<◌}
 use native.Mathlib.Omega.{arith}
 use lib.ListN.{length}
 use lib.Ieee.{Float, nan, binary32, mul}
 use Rattle.lists.specs.Tab.{at, fill}
-use Rattle.lists.specs.Region.{Apart, Free}
+use Rattle.lists.specs.Region.{Apart}
 use Rattle.lists.proofs.Fill.{length-fill, at-fill_in, at-fill-out}
 use Rattle.activation.specs.declared.Activation.{Activation}
 use Rattle.activation.specs.Activated.{activated}
 use Rattle.gating.specs.declared.Mode.{Mode}
 use Rattle.gating.specs.declared.Mode.TheVariants.{None, Gated, Blended}
 use Rattle.gating.specs.Joined.{input_rows, blend, joined}
-use Rattle.gating.specs.Over.{GatingFits, GatedOver}
+use Rattle.gating.specs.Over.{GatedOver}
 
 pub rows_least : (mode : Mode) (n : ℕ) → n ≤ input_rows mode n
 unfolding input_rows

@@ -1,4 +1,6 @@
 // Carries gating.rs, and GatingMode of model.rs. Document 01, 'The recurrence' (Gating).
+#![tactic(auto)]
+
 ghost use Rattle.std.specs.Prelude.{◌≡◌, ◌+◌, ◌≤◌, length};
 ghost use Rattle.std.specs.Float.{binary32};
 ghost use Rattle.std.specs.Float.Ieee.{mul};
