@@ -1,5 +1,7 @@
 // The description of a layer array, taken apart: its numbers, the records read from them, the parts (convolutions) that they ask for, and the check
 // that refuses what is wrong. Carries the asserts of conv.rs, layer.rs and array.rs. Document 01, 'Description' and 'Refusal numbers' 1 to 5.
+#![tactic(auto)]
+
 pub mod answers;
 pub mod check;
 pub mod limits;

@@ -1,0 +1,6 @@
+use Rattle.description.specs.Parts.{conv_of}
+use Rattle.description.proofs.parts.conv.Goals as goal
+
+pub returns : goal.returns
+unfolding conv_of
+returns c = rw c.doubled-outs.ensures

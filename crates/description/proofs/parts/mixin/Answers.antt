@@ -1,0 +1,6 @@
+use Rattle.description.specs.Parts.{mixin_of}
+use Rattle.description.proofs.parts.mixin.Goals as goal
+
+pub returns : goal.returns
+unfolding mixin_of
+returns c = rw c.doubled-outs.ensures

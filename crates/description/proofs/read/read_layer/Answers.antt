@@ -1,0 +1,23 @@
+use mathlib.Core.Path.{sym, ◌∙◌}
+use Rattle.description.specs.Limits.{layer_limits}
+use Rattle.description.proofs.Answering.{broken_range, broken_zeros, whole}
+use Rattle.description.proofs.read.read_layer.Goals as goal
+
+pub returns-then-breaks_range : goal.returns-then-breaks_range
+unfolding layer_limits
+returns-then-breaks_range c =
+    let args = c.args in
+    broken_range args.description.now args.l (sym c.breaks_range.ensures ∙ c.if-breaks_range.true)
+
+pub returns-then-breaks_zero_rule : goal.returns-then-breaks_zero_rule
+returns-then-breaks_zero_rule c =
+    let args = c.args in
+    broken_zeros args.description.now args.l (sym c.breaks_zero_rule.ensures ∙ c.if-breaks_zero_rule.true)
+
+pub returns : goal.returns
+unfolding layer_limits
+returns c =
+    let args = c.args in
+    whole args.description.now args.l (sym c.breaks_range.ensures ∙ c.if-breaks_range.false)
+    (sym c.breaks_zero_rule.ensures ∙ c.if-breaks_zero_rule.false)
+    c.layer_record.ensures
