@@ -73,7 +73,7 @@ pub fn taps_eight(
 ) -> [f32; 8]
     requires { PartsFit sh ring.at ring.len (length history.now) (length weights.now) × GroupFits sh g o 8 }
     ensures { result ≡ tab 8 (λ i. taps_from sh weights.now
-        (past sh.ins (ring_length sh) (record { history = history.entry.now; place = ring.at })) (o + i) sh.kernel (at sums i)) }
+        (past sh.ins (ring_length sh) (record { history = history.now; place = ring.at })) (o + i) sh.kernel (at sums i)) }
 {
     let ins = sh.ins;
     let kernel = sh.kernel;
@@ -112,7 +112,7 @@ pub fn taps_four(
 ) -> [f32; 4]
     requires { PartsFit sh ring.at ring.len (length history.now) (length weights.now) × GroupFits sh g o 4 }
     ensures { result ≡ tab 4 (λ i. taps_from sh weights.now
-        (past sh.ins (ring_length sh) (record { history = history.entry.now; place = ring.at })) (o + i) sh.kernel (at sums i)) }
+        (past sh.ins (ring_length sh) (record { history = history.now; place = ring.at })) (o + i) sh.kernel (at sums i)) }
 {
     let ins = sh.ins;
     let kernel = sh.kernel;
@@ -151,7 +151,7 @@ pub fn taps_one(
 ) -> f32
     requires { PartsFit sh ring.at ring.len (length history.now) (length weights.now) × GroupFits sh g o 1 }
     ensures { result ≡ taps_from sh weights.now
-        (past sh.ins (ring_length sh) (record { history = history.entry.now; place = ring.at })) o sh.kernel sum }
+        (past sh.ins (ring_length sh) (record { history = history.now; place = ring.at })) o sh.kernel sum }
 {
     let ins = sh.ins;
     let kernel = sh.kernel;

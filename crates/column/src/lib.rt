@@ -1,6 +1,8 @@
 // One column through a convolution: pushed, then its outputs taken, eight or four side by side where so many are left. Carries conv.rs
 // (`process_sample`). Document 01, 'The recurrence': start at the bias, or +0 without one; add product by product, tap 0 upward, within a tap local
 // input 0 upward.
+#![tactic(auto)]
+
 ghost use Rattle.std.specs.Prelude.{◌≡◌, true, cond, ◌⊎◌, ℕ, ◌+◌, ◌*◌, ◌≤◌, ◌<◌, length};
 ghost use Rattle.std.specs.Float.Ieee.{of_bits};
 ghost use Rattle.std.specs.Float.{binary32};
@@ -47,7 +49,7 @@ fn some_outputs(
     requires { PartsFit sh ring.at ring.len (length history.now) (length weights.now) × GroupFits sh g o n
         × ((n ≡ 1) ⊎ ((n ≡ 4) ⊎ (n ≡ 8))) × ((o : ℕ) → o < sh.outs → out + o * m < length work.old) }
     ensures { work.new ≡ rows (out + o * m) m 1 n
-        (λ i t. output sh weights.now (record { history = history.entry.now; place = ring.at }) (o + i)) work.old }
+        (λ i t. output sh weights.now (record { history = history.now; place = ring.at }) (o + i)) work.old }
 {
     let biased = sh.biased;
     let from = sh.kernel_count() + o;
@@ -94,7 +96,7 @@ fn group_outputs(
     requires { PartsFit sh ring.at ring.len (length history.now) (length weights.now) × (g < sh.groups)
         × ((o : ℕ) → o < sh.outs → out + o * m < length work.old) }
     ensures { work.new ≡ rows (out + g * outputs_per_group sh * m) m 1 (outputs_per_group sh)
-        (λ i t. output sh weights.now (record { history = history.entry.now; place = ring.at }) (g * outputs_per_group sh + i)) work.old }
+        (λ i t. output sh weights.now (record { history = history.now; place = ring.at }) (g * outputs_per_group sh + i)) work.old }
 {
     let opg = sh.outputs_per_group();
     let first = g * opg;
@@ -119,7 +121,7 @@ fn outputs(
     requires { PartsFit sh ring.at ring.len (length history.now) (length weights.now)
         × ((o : ℕ) → o < sh.outs → out + o * m < length work.old) }
     ensures { work.new ≡ rows out m 1 sh.outs
-        (λ o t. output sh weights.now (record { history = history.entry.now; place = ring.at }) o) work.old }
+        (λ o t. output sh weights.now (record { history = history.now; place = ring.at }) o) work.old }
 {
     let groups = sh.groups;
     for g in 0..groups {
@@ -140,10 +142,10 @@ pub fn column(
 ) -> Ring
     requires { PartsFit sh ring.at ring.len (length history.old) (length weights.now)
         × ((c : ℕ) → c < sh.ins → x + c * m < length work.old) × ((o : ℕ) → o < sh.outs → out + o * m < length work.old) }
-    ensures { (record { history = history.exit.now; place = result.at }
-        ≡ remembered sh (λ t c. at work.old (x + c * m + t)) (record { history = history.entry.now; place = ring.at }) 1)
+    ensures { (record { history = history.new; place = result.at }
+        ≡ remembered sh (λ t c. at work.old (x + c * m + t)) (record { history = history.old; place = ring.at }) 1)
         × (work.new ≡ rows out m 1 sh.outs
-        (λ o t. output sh weights.now (record { history = history.exit.now; place = result.at }) o) work.old)
+        (λ o t. output sh weights.now (record { history = history.new; place = result.at }) o) work.old)
         × (result.len ≡ ring.len) }
 {
     let ins = sh.ins;

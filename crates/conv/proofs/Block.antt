@@ -1,7 +1,7 @@
 -- Many columns at once: gathered taps are the sliding window's, so the block's sums are the recurrence's. Assumes nothing.
 use mathlib.Core.Path.{◌≡◌, sym, ◌∙◌, ap}
 use mathlib.Core.List.{List}
-use Prim.Native.Nat.{ℕ, suc, ◌+◌, ◌*◌, ◌%◌, ◌≤◌, ◌<◌}
+use Prim.Native.Nat.{ℕ, zero, suc, ◌+◌, ◌*◌, ◌%◌, ◌≤◌, ◌<◌}
 use native.Mathlib.Omega.{arith}
 use lib.ListN.{length}
 use lib.Ieee.{Float, nan}
@@ -25,6 +25,7 @@ use Rattle.column.proofs.Sums.{tap_ext, taps_ext, taps_none, taps_more}
 
 -- every row ends within, in one inequality
 rows_fit : (a s n w all : ℕ) → 0 < w → ((c : ℕ) → c < w → a + c * s + n ≤ all) → a + n + w * s ≤ all + s
+rows_fit a s n zero all p h = elim p [ ]
 rows_fit a s n (suc w) all p h = omega (arith, h w (omega arith))
 
 module _ {sh : Shape} {place len m n nwork nhistory nweights x out rows' : ℕ} (f : BlockFits sh place len m n nwork nhistory nweights x out rows') where

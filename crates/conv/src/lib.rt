@@ -1,5 +1,7 @@
 // A causal, dilated, grouped convolution of a planar block of columns, over regions of one scratch. Carries conv.rs (`process_block`); one column alone
 // is crate `column`. Document 01, 'The recurrence'.
+#![tactic(auto)]
+
 ghost use Rattle.std.specs.Prelude.{◌≡◌, true, ℕ, ◌+◌, ◌*◌, ◌%◌, ◌≤◌, ◌<◌, length};
 ghost use Rattle.lists.specs.Tab.{at, rows};
 ghost use Rattle.shape.specs.Counts.{InRange, outputs_per_group, weight_count};
@@ -113,7 +115,7 @@ fn read_tap(
     k: usize,
 )
     requires { BlockFits sh ring.at ring.len m n (length work.old) (length history.now) (length weights.now) x out rows × (n % 16 ≡ 0) × (k < sh.kernel) }
-    ensures { Tapped sh weights.now m n x out rows (record { history = history.entry.now; place = ring.at }) work.old k work.new }
+    ensures { Tapped sh weights.now m n x out rows (record { history = history.now; place = ring.at }) work.old k work.new }
 {
     let back = column::steps_back(sh, k);
     if in_place(back, m, n) {
@@ -139,7 +141,7 @@ fn taps(
     n: usize,
 )
     requires { BlockFits sh ring.at ring.len m n (length work.old) (length history.now) (length weights.now) x out rows × (n % 16 ≡ 0) }
-    ensures { AllTapped sh weights.now m n x out rows (record { history = history.entry.now; place = ring.at }) work.old sh.kernel work.new }
+    ensures { AllTapped sh weights.now m n x out rows (record { history = history.now; place = ring.at }) work.old sh.kernel work.new }
 {
     let kernel = sh.kernel;
     for k in 0..kernel {
@@ -161,8 +163,8 @@ fn columns(
     n: usize,
 ) -> Ring
     requires { BlockFits sh ring.at ring.len m n (length work.old) (length history.old) (length weights.now) x out rows × (n % 16 ≡ 0) }
-    ensures { Played sh weights.now m n x out rows work.old (record { history = history.entry.now; place = ring.at }) work.new
-        (record { history = history.exit.now; place = result.at }) × (result.len ≡ ring.len) }
+    ensures { Played sh weights.now m n x out rows work.old (record { history = history.old; place = ring.at }) work.new
+        (record { history = history.new; place = result.at }) × (result.len ≡ ring.len) }
 {
     start(work, weights, out, m, n, sh);
     taps(work, history, weights, x, out, rows, ring, sh, m, n);
@@ -201,8 +203,8 @@ fn part(
     n: usize,
 ) -> Ring
     requires { BlockFits sh ring.at ring.len m n (length work.old) (length history.old) (length weights.now) x out rows × ((n ≡ 1 → ⊥) → n % 16 ≡ 0) }
-    ensures { Played sh weights.now m n x out rows work.old (record { history = history.entry.now; place = ring.at }) work.new
-        (record { history = history.exit.now; place = result.at }) × (result.len ≡ ring.len) }
+    ensures { Played sh weights.now m n x out rows work.old (record { history = history.old; place = ring.at }) work.new
+        (record { history = history.new; place = result.at }) × (result.len ≡ ring.len) }
 {
     if n == 1 {
         return column::column(work, history, weights, x, out, ring, sh, m);
@@ -223,8 +225,8 @@ fn parts(
     m: usize,
 ) -> Ring
     requires { ConvFits sh ring.at ring.len m (length work.old) (length history.old) (length weights.now) x out rows }
-    ensures { Convolved sh weights.now m x out rows work.old (record { history = history.entry.now; place = ring.at }) work.new
-        (record { history = history.exit.now; place = result.at }) × (result.len ≡ ring.len) }
+    ensures { Convolved sh weights.now m x out rows work.old (record { history = history.old; place = ring.at }) work.new
+        (record { history = history.new; place = result.at }) × (result.len ≡ ring.len) }
 {
     let mut place = ring;
     let mut t = 0;
@@ -261,8 +263,8 @@ pub fn conv(
     m: usize,
 ) -> Ring
     requires { ConvFits sh ring.at ring.len m (length work.old) (length history.old) (length weights.now) x out rows }
-    ensures { Convolved sh weights.now m x out rows work.old (record { history = history.entry.now; place = ring.at }) work.new
-        (record { history = history.exit.now; place = result.at }) × (result.len ≡ ring.len) }
+    ensures { Convolved sh weights.now m x out rows work.old (record { history = history.old; place = ring.at }) work.new
+        (record { history = history.new; place = result.at }) × (result.len ≡ ring.len) }
 {
     if m == 1 {
         return column::column(work, history, weights, x, out, ring, sh, 1);

@@ -1,5 +1,7 @@
 // One convolution for C and Rust callers, for tests and benchmarks of `conv` alone. It asks nothing of its caller: every size and place is tested
 // first, and where one is wrong nothing is touched.
+#![tactic(auto)]
+
 ghost use Rattle.std.specs.Prelude.{◌≡◌, true, ◌+◌, ◌≤◌, ◌<◌, length, eqb};
 ghost use Rattle.lists.specs.Region.{Apart};
 ghost use Rattle.shape.specs.Counts.{InRange, ring_length};
@@ -179,9 +181,9 @@ pub extern "C" fn conv_block(
 ) -> u32
     ensures { Called (record { ins = ins; outs = outs; kernel = kernel; dilation = dilation; groups = groups; biased = eqb bias 1 })
         (CallFits (record { ins = ins; outs = outs; kernel = kernel; dilation = dilation; groups = groups; biased = eqb bias 1 })
-        place.old bias m (length work.old) (length history.entry.now) (length weights.now) x out rows)
-        weights.now m x out rows work.old (record { history = history.entry.now; place = place.old })
-        result work.new (record { history = history.exit.now; place = place.new }) }
+        place.old bias m (length work.old) (length history.old) (length weights.now) x out rows)
+        weights.now m x out rows work.old (record { history = history.old; place = place.old })
+        result work.new (record { history = history.new; place = place.new }) }
 {
     let sh = Shape {
         ins,

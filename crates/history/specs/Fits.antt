@@ -1,5 +1,5 @@
 -- What the places and sizes have to be: a history of len columns of ins numbers whose last column is at `at`, and rows in work.
-use Rattle.std.specs.Prelude.{◌≡◌, ℕ, ◌+◌, ◌*◌, ◌≤◌, ◌<◌, min, max}
+use Rattle.std.specs.Prelude.{◌≡◌, ℕ, ◌+◌, ◌*◌, ◌≤◌, ◌<◌}
 use Rattle.lists.specs.Region.{Apart}
 
 pub record StoreFits (at len nhistory nwork ins x stride n : ℕ) : Type 0 where

@@ -1,6 +1,8 @@
 // Columns between a block and a history: all columns of a block stored, and the columns that a tap reads gathered, some out of the history and the
 // rest out of the block itself. Carries the ring of conv.rs, both its staging and its update. Document 01, 'The recurrence': the place moves on, then
 // the column is stored; channel j of a column at place x in + j.
+#![tactic(auto)]
+
 ghost use Rattle.std.specs.Prelude.{◌≡◌, ℕ, ◌+◌, ◌-◌, ◌*◌, ◌≤◌, ◌<◌, min, length};
 ghost use Rattle.lists.specs.Tab.{at, fill, rows};
 ghost use Rattle.lists.specs.Region.{Apart};
@@ -72,8 +74,8 @@ pub fn store(
     n: usize,
 ) -> Ring
     requires { StoreFits ring.at ring.len (length history.old) (length work.now) ins x stride n }
-    ensures { (record { history = history.exit.now; place = result.at }
-        ≡ after ins ring.len (λ t j. at work.now (x + j * stride + t)) (record { history = history.entry.now; place = ring.at }) n)
+    ensures { (record { history = history.new; place = result.at }
+        ≡ after ins ring.len (λ t j. at work.now (x + j * stride + t)) (record { history = history.old; place = ring.at }) n)
         × (result.len ≡ ring.len) }
 {
     let mut place = ring;
@@ -115,7 +117,7 @@ fn fetch(
 )
     requires { FetchFits ring.at ring.len (length history.now) (length work.old) ins to stride back n }
     ensures { work.new ≡ rows to stride n ins
-        (λ j t. past ins ring.len (record { history = history.entry.now; place = ring.at }) j (back - t - 1)) work.old }
+        (λ j t. past ins ring.len (record { history = history.now; place = ring.at }) j (back - t - 1)) work.old }
 {
     let len = ring.len;
     let first = ring.back(back);
@@ -169,7 +171,7 @@ pub fn gather(
 )
     requires { GatherFits ring.at ring.len (length history.now) (length work.old) ins to x stride back n }
     ensures { work.new ≡ rows to n n ins
-        (λ c t. seen (λ i. at work.old (x + c * stride + i)) (past ins ring.len (record { history = history.entry.now; place = ring.at }) c) back t)
+        (λ c t. seen (λ i. at work.old (x + c * stride + i)) (past ins ring.len (record { history = history.now; place = ring.at }) c) back t)
         work.old }
 {
     let before = least(back, n);

@@ -1,4 +1,6 @@
 // The lines that the program `ampline` prints, written into a lent buffer: a block's columns, and the last line. Document 01, 'The program'.
+#![tactic(auto)]
+
 ghost use Rattle.std.specs.Prelude.{◌≡◌, ◌+◌, ◌*◌, ◌<◌, ◌≤◌, length};
 ghost use Rattle.std.proofs.lemmas.List.Edits.{sets};
 ghost use Rattle.lines.specs.Text.{column_of, decimal_of, hex_digit, hex_of, last_of, line_of, lines_of, named_of, outputs_of, spaced_of, values_text};

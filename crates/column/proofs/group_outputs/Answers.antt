@@ -1,0 +1,94 @@
+-- A stretch of outputs more a turn, by `outputs_turn`.
+use mathlib.Core.Path.{◌≡◌, sym}
+use native.Mathlib.Omega.{arith}
+use borrow.Author.Rules.{rules}
+use Rattle.lists.proofs.Rows.{rows_none}
+use Rattle.column.proofs.Indices.{group_end, group_fits, stretch}
+use Rattle.column.proofs.OneColumn.{outputs_turn}
+use Rattle.column.proofs.group_outputs.Goals as goal
+
+pub outputs_per_group-opg-requires : goal.outputs_per_group-opg-requires
+outputs_per_group-opg-requires c =
+    let pre = c.requires in
+    pre.0.range
+
+pub overflow_mul-first : goal.overflow_mul-first
+overflow_mul-first c =
+    let pre = c.requires in
+    let args = c.args in
+    let e = c.outputs_per_group-opg.ensures in
+    let d = pre.0.divided in
+    let r = pre.0.range in
+    let end = rw (sym e) at (group_end d r args.g pre.1) in
+    omega (arith, end, r.outs_high)
+
+pub loop-i-init : goal.loop-i-init
+loop-i-init c = (search rules, search rules, rows_none _ _ _ _ _)
+
+pub overflow_add-first : goal.overflow_add-first
+overflow_add-first c =
+    let pre = c.requires in
+    let args = c.args in
+    let outputs-per-group = c.outputs_per_group-opg in
+    let e = outputs-per-group.ensures in
+    let d = pre.0.divided in
+    let r = pre.0.range in
+    let end = rw (sym e) at (group_end d r args.g pre.1) in
+    omega (arith, end, r.outs_high, c.loop-i-test.true)
+
+pub some_outputs-requires : goal.some_outputs-requires
+some_outputs-requires c =
+    let pre = c.requires in
+    let args = c.args in
+    let outputs-per-group = c.outputs_per_group-opg in
+    let loop = c.loop-i in
+    let loop-test = c.loop-i-test in
+    let next = c.stretch-n in
+    let e = outputs-per-group.ensures in
+    let d = pre.0.divided in
+    let r = pre.0.range in
+    let end = rw (sym e) at (group_end d r args.g pre.1) in
+    let few = next.ensures in (
+      pre.0,
+      stretch loop.i next.result (group_fits d r args.g outputs-per-group.result outputs-per-group.result pre.1 e (omega arith)) (omega (arith, few.1, loop-test.true)),
+      few.2,
+      λ o ho. omega (arith, loop.invariant.1, pre.2 o ho),
+    )
+
+pub overflow_add-i : goal.overflow_add-i
+overflow_add-i c =
+    let pre = c.requires in
+    let args = c.args in
+    let outputs-per-group = c.outputs_per_group-opg in
+    let loop-test = c.loop-i-test in
+    let next = c.stretch-n in
+    let e = outputs-per-group.ensures in
+    let d = pre.0.divided in
+    let r = pre.0.range in
+    let end = rw (sym e) at (group_end d r args.g pre.1) in
+    omega (arith, next.ensures.0, next.ensures.1, loop-test.true, end, r.outs_high)
+
+pub loop-i-smaller : goal.loop-i-smaller
+loop-i-smaller c =
+    let loop-test = c.loop-i-test in
+    let next = c.stretch-n in
+    omega (arith, next.ensures.0, next.ensures.1, loop-test.true)
+
+pub loop-i-preserved : goal.loop-i-preserved
+loop-i-preserved c =
+    let args = c.args in
+    let loop = c.loop-i in
+    let loop-test = c.loop-i-test in
+    let next = c.stretch-n in
+    let some-outputs = c.some_outputs in (
+      omega (arith, next.ensures.0, next.ensures.1, loop-test.true),
+      omega (arith, some-outputs.auto.work, loop.invariant.1),
+      outputs_turn args.sh args.weights.now _ args.work.now loop.work _ _ _ _ loop.i next.result loop.invariant.2 some-outputs.ensures,
+    )
+
+pub returns : goal.returns
+returns c =
+    let outputs-per-group = c.outputs_per_group-opg in
+    let loop = c.loop-i in
+    let all : loop.i ≡ outputs-per-group.result = omega (arith, loop.invariant.0, c.loop-i-test.false) in
+    rw outputs-per-group.ensures at (rw all at loop.invariant.2)
