@@ -40,6 +40,9 @@ TOLD = {
     "weights-at": "weights_at_is",
     "weights-in": "weights_inside",
     "is-nan": "is_nan_pattern",
+    "out-rows": "out_rows",
+    "none-given": "none_given",
+    "none-played": "none_played",
 }
 
 

@@ -52,7 +52,7 @@ module _ {sh : Shape} {place len m n nwork nhistory nweights x out rows' : ℕ} 
     whole = w;
     out_in = rw e f.out_in;
     from_in = λ c hc. omega (arith, e, f.rows_in, row_end c sh.ins n hc);
-    apart = λ o c ho hc. omega (arith, f.out-rows o ho, row_end c sh.ins n hc);
+    apart = λ o c ho hc. omega (arith, f.out_rows o ho, row_end c sh.ins n hc);
     narrow = f.narrow;
   }
 
@@ -111,7 +111,7 @@ module _ {sh : Shape} {place len m n nwork nhistory nweights x out rows' : ℕ} 
         let free = rows_free nan rows' n sh.ins _ old work g in
         record {
           outs = strip_as (rows_strip out m n sh.outs _ work last h f.narrow (omega (arith, out_fit, size, long))) (λ o t ho ht.
-              rw (free.is (out + o * m + t) (omega (arith, f.out-rows o ho, ht)))
+              rw (free.is (out + o * m + t) (omega (arith, f.out_rows o ho, ht)))
               (tap_ext sh weights _ (sight sh m x old s t) o k (at old (out + o * m + t)) (λ j hj.
               read.is (channel_of sh o j) t (channel_in f.parts.divided f.parts.range o j ho hj) ht
               ∙ rw (e, f.parts.ring_is))));

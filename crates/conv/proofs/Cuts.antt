@@ -56,7 +56,7 @@ module _ {sh : Shape} {place len m t nwork nweights x out rows : ℕ} {weights o
         out_in = λ o ho. omega (arith, f.out_in, row_end o sh.outs m ho, e, le);
         rows_in = omega (arith, f.rows_in, narrow, e);
         out_x = λ o c ho hc. omega (arith, f.out_x, row_end o sh.outs m ho, row_end c sh.ins m hc, le);
-        out-rows = λ o ho. omega (arith, f.out-rows, row_end o sh.outs m ho, narrow, le);
+        out_rows = λ o ho. omega (arith, f.out_rows, row_end o sh.outs m ho, narrow, le);
         rows_x = λ c hc. omega (arith, f.rows_x, row_end c sh.ins m hc, narrow, le);
         narrow = omega arith;
       }
@@ -93,7 +93,7 @@ module _ {sh : Shape} {place len m t nwork nweights x out rows : ℕ} {weights o
       record {
         outs = λ g held.
             strip_join t n
-            (strip_free p.others (λ c i hc hi. (done_beside n c i le hc hi, omega (arith, f.out-rows, row_end c sh.outs m hc, hi, le, narrow))) (b.outs g held))
+            (strip_free p.others (λ c i hc hi. (done_beside n c i le hc hi, omega (arith, f.out_rows, row_end c sh.outs m hc, hi, le, narrow))) (b.outs g held))
             (strip_as (p.outs (λ i. g (t + i)) (here g held)) (λ o i ho hi.
             ap (λ (q : Memory). output sh weights q o) (then g held (suc i) ∙ ap (remembered sh g s) (add-suc t i))));
         memory = λ g held. p.memory (λ i. g (t + i)) (here g held) ∙ then g held n;

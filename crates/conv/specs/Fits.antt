@@ -13,7 +13,7 @@ pub record ConvFits (sh : Shape) (at len m nwork nhistory nweights x out rows : 
   pub out_in : out + sh.outs * m ≤ nwork
   pub rows_in : rows + sh.ins * m ≤ nwork
   pub out_x : Apart out (sh.outs * m) x (sh.ins * m)
-  pub out-rows : Apart out (sh.outs * m) rows (sh.ins * m)
+  pub out_rows : Apart out (sh.outs * m) rows (sh.ins * m)
   pub rows_x : Apart rows (sh.ins * m) x (sh.ins * m)
 
 -- ---- within a block: n of its columns, in rows of m
@@ -25,7 +25,7 @@ pub record BlockFits (sh : Shape) (at len m n nwork nhistory nweights x out rows
   pub out_in : (o : ℕ) → o < sh.outs → out + o * m + n ≤ nwork
   pub rows_in : rows + sh.ins * n ≤ nwork
   pub out_x : (o c : ℕ) → o < sh.outs → c < sh.ins → Apart (out + o * m) n (x + c * m) n
-  pub out-rows : (o : ℕ) → o < sh.outs → Apart (out + o * m) n rows (sh.ins * n)
+  pub out_rows : (o : ℕ) → o < sh.outs → Apart (out + o * m) n rows (sh.ins * n)
   pub rows_x : (c : ℕ) → c < sh.ins → Apart rows (sh.ins * n) (x + c * m) n
   pub narrow : n ≤ m
 

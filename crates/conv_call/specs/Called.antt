@@ -16,7 +16,7 @@ pub record RegionsFit (nwork nx nout x out rows : ℕ) : Type 0 where
   pub out_in : out + nout ≤ nwork
   pub rows_in : rows + nx ≤ nwork
   pub out_x : Apart out nout x nx
-  pub out-rows : Apart out nout rows nx
+  pub out_rows : Apart out nout rows nx
   pub rows_x : Apart rows nx x nx
 
 pub record CallFits (sh : Shape) (place bias m nwork nhistory nweights x out rows : ℕ) : Type 0 where

@@ -88,7 +88,7 @@ module _ (d : List ℕ) (w : List Float) where
       → Sequence d w histories positions calls histories' positions' → NothingPlayed calls histories histories' positions positions'
   unfolding Sequence played given
   unfit_plays_nothing [] histories histories' positions positions' unfit s =
-      record { histories_kept = s.0; positions_kept = s.1; none-played = refl; none-given = refl }
+      record { histories_kept = s.0; positions_kept = s.1; none_played = refl; none_given = refl }
   unfit_plays_nothing (c ∷ cs) histories histories' positions positions' unfit s =
       let f = s.0 in
       let ne = always_refused histories positions c unfit f in
@@ -100,6 +100,6 @@ module _ (d : List ℕ) (w : List Float) where
       record {
         histories_kept = later.histories_kept ∙ h;
         positions_kept = later.positions_kept ∙ p;
-        none-played = ap (λ (l : List Column). l ++ played cs) (none_by c ne (brought c.lent (count_of c.kind))) ∙ later.none-played;
-        none-given = ap (λ (l : List Column). l ++ given cs) (none_by c ne (handed c)) ∙ later.none-given;
+        none_played = ap (λ (l : List Column). l ++ played cs) (none_by c ne (brought c.lent (count_of c.kind))) ∙ later.none_played;
+        none_given = ap (λ (l : List Column). l ++ given cs) (none_by c ne (handed c)) ∙ later.none_given;
       }

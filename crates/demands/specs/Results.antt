@@ -35,8 +35,8 @@ pub record SameEnd (calls calls' : List Call) (histories histories' : List Float
 pub record NothingPlayed (calls : List Call) (histories histories' : List Float) (positions positions' : List ℕ) : Type 0 where
   pub histories_kept : histories' ≡ histories
   pub positions_kept : positions' ≡ positions
-  pub none-played : played calls ≡ []
-  pub none-given : given calls ≡ []
+  pub none_played : played calls ≡ []
+  pub none_given : given calls ≡ []
 
 module _ (c : Call) where
   abbrev d : List ℕ

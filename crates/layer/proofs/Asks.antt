@@ -216,7 +216,7 @@ module _ {a : ArrayRecord} {r : LayerRecord} {start : Place} {size m nwork : ℕ
         → Apart out (sh.outs * m) (11 * size) (sh.ins * m) → Apart (11 * size) (sh.ins * m) x (sh.ins * m)
         → PlayFits sh (slot_place a r start j) (get_or positions (slot_place a r start j).positions 0) m nwork (length histories) (length positions) (length weights) x out (11 * size)
     unfolding histories_of positions_of weights_of
-    play_fits x_in out_in narrow out_x out-rows rows_x =
+    play_fits x_in out_in narrow out_x out_rows rows_x =
         let f = fits.slots j hj sh e in
         let h : histories_of (part_of a r j) ≡ history_count sh = ap histories_of e in
         let p : positions_of (part_of a r j) ≡ 1 = ap positions_of e in
@@ -232,7 +232,7 @@ module _ {a : ArrayRecord} {r : LayerRecord} {start : Place} {size m nwork : ℕ
           out_in = out_in;
           rows_in = omega (arith, narrow, fits.work_in);
           out_x = out_x;
-          out-rows = out-rows;
+          out_rows = out_rows;
           rows_x = rows_x;
         }
 

@@ -43,7 +43,7 @@ module _ (sh : Shape) (at : Place) (p m nwork np x out rows : ℕ) (histories we
     out_in = f.out_in;
     rows_in = f.rows_in;
     out_x = f.out_x;
-    out-rows = f.out-rows;
+    out_rows = f.out_rows;
     rows_x = f.rows_x;
   }
 

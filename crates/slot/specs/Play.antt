@@ -22,7 +22,7 @@ pub record PlayFits (sh : Shape) (at : Place) (p m nwork nhistories npositions n
   pub out_in : out + sh.outs * m ≤ nwork
   pub rows_in : rows + sh.ins * m ≤ nwork
   pub out_x : Apart out (sh.outs * m) x (sh.ins * m)
-  pub out-rows : Apart out (sh.outs * m) rows (sh.ins * m)
+  pub out_rows : Apart out (sh.outs * m) rows (sh.ins * m)
   pub rows_x : Apart rows (sh.ins * m) x (sh.ins * m)
 
 -- whichever columns f the region at x held

@@ -112,7 +112,7 @@ module _ {d : List ℕ} {span : Span} {k : ℕ} {start : Place} {nweights nhisto
           out_in = omega (arith, m, ro.of_turn, long);
           rows_in = omega (arith, m, ri.of_turn, long);
           out_x = omega (arith, ri.of_turn, ro.of_turn);
-          out-rows = omega (arith, ri.of_turn, ro.of_turn);
+          out_rows = omega (arith, ri.of_turn, ro.of_turn);
           rows_x = omega (arith, ri.of_turn, ro.of_turn);
         }
 

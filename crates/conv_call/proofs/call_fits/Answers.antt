@@ -52,7 +52,7 @@ regions_fit-requires c =
     (mul-pos r.ins_low m.0, mul-pos r.outs_low m.0)
 
 pub returns-then-not-regions_fit : goal.returns-then-not-regions_fit
-returns-then-not-regions_fit c = no (λ h. never c.regions_fit.ensures c.if-not-regions_fit.true (record { x_in = h.fits.x_in; out_in = h.fits.out_in; rows_in = h.fits.rows_in; out_x = h.fits.out_x; out-rows = h.fits.out-rows; rows_x = h.fits.rows_x }))
+returns-then-not-regions_fit c = no (λ h. never c.regions_fit.ensures c.if-not-regions_fit.true (record { x_in = h.fits.x_in; out_in = h.fits.out_in; rows_in = h.fits.rows_in; out_x = h.fits.out_x; out_rows = h.fits.out_rows; rows_x = h.fits.rows_x }))
 
 pub returns : goal.returns
 returns c =
@@ -76,7 +76,7 @@ returns c =
         out_in = q.out_in;
         rows_in = q.rows_in;
         out_x = q.out_x;
-        out-rows = q.out-rows;
+        out_rows = q.out_rows;
         rows_x = q.rows_x;
       };
     })

@@ -15,7 +15,7 @@ pub returns-then-not-apart : goal.returns-then-not-apart
 returns-then-not-apart c = no (λ h. never c.apart.ensures c.if-not-apart.true h.out_x)
 
 pub returns-then-not-apart-2 : goal.returns-then-not-apart-2
-returns-then-not-apart-2 c = no (λ h. never c.apart-2.ensures c.if-not-apart-2.true h.out-rows)
+returns-then-not-apart-2 c = no (λ h. never c.apart-2.ensures c.if-not-apart-2.true h.out_rows)
 
 pub returns-then-not-apart-3 : goal.returns-then-not-apart-3
 returns-then-not-apart-3 c = no (λ h. never c.apart-3.ensures c.if-not-apart-3.true h.rows_x)
@@ -31,4 +31,4 @@ returns c =
     let apart = c.apart in
     let if4 = c.if-not-apart in
     let apart2 = c.apart-2 in
-    yes (record { x_in = region.ensures.0 if1.false; out_in = region2.ensures.0 if2.false; rows_in = region3.ensures.0 if3.false; out_x = apart.ensures.0 if4.false; out-rows = apart2.ensures.0 c.if-not-apart-2.false; rows_x = c.apart-3.ensures.0 c.if-not-apart-3.false })
+    yes (record { x_in = region.ensures.0 if1.false; out_in = region2.ensures.0 if2.false; rows_in = region3.ensures.0 if3.false; out_x = apart.ensures.0 if4.false; out_rows = apart2.ensures.0 c.if-not-apart-2.false; rows_x = c.apart-3.ensures.0 c.if-not-apart-3.false })
