@@ -1,21 +1,20 @@
 -- A convolution on its parts of the buffers does to its own memory what the recurrence does, and to nothing else. Assumes nothing.
-use mathlib.Core.Path.{◌≡◌, refl, sym, ◌∙◌, ap}
+use mathlib.Core.Path.{◌≡◌, refl, ◌∙◌, ap}
 use mathlib.Core.List.{List}
-use Prim.Native.Nat.{ℕ, suc, ◌+◌, ◌-◌, ◌*◌, ◌≤◌, ◌<◌, min, max}
+use Prim.Native.Nat.{ℕ, ◌+◌, ◌-◌, ◌<◌}
 use native.Mathlib.Omega.{arith}
 use lib.ListN.{length, get_or, set, take, drop, length-set}
 use lib.Seq.{get_or-set_same, get_or-set_other}
 use lib.Ieee.{Float, nan}
 use borrow.Rule.Slice.PartMut.{put_mid}
-use Rattle.lists.specs.Tab.{at}
 use Rattle.lists.specs.Part.{part}
-use Rattle.lists.specs.Region.{Apart, cell, Holds, Free}
+use Rattle.lists.specs.Region.{cell}
 use Rattle.lists.proofs.Parts.{end_start, length_part, part_put, put_free}
-use Rattle.ring.specs.Memory.{Memory, Sound, after}
+use Rattle.ring.specs.Memory.{Memory, Sound}
 use Rattle.ring.proofs.Window.{after_sound}
 use Rattle.shape.specs.declared.Shape.{Shape}
 use Rattle.shape.specs.Counts.{ring_length, weight_count, history_count}
-use Rattle.column.specs.Recurrence.{output, remembered}
+use Rattle.column.specs.Recurrence.{remembered}
 use Rattle.conv.specs.Fits.{ConvFits}
 use Rattle.conv.specs.Does.{Convolved}
 use Rattle.description.specs.Sizes.{weights_of}

@@ -1,5 +1,5 @@
 -- A FiLM site over a block of columns: what it asks, and what it does.
-use Rattle.std.specs.Prelude.{◌≡◌, Bool, cond, List, ℕ, suc, ◌+◌, ◌*◌, ◌≤◌, ◌<◌, Float}
+use Rattle.std.specs.Prelude.{◌≡◌, Bool, cond, List, ℕ, suc, ◌+◌, ◌*◌, ◌≤◌, Float}
 use Rattle.std.specs.Float.{nan}
 use Rattle.lists.specs.Region.{Apart, Holds, Free}
 use Rattle.shape.specs.declared.Shape.{Shape}

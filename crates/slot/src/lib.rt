@@ -1,5 +1,7 @@
 // A convolution of the description on its parts of the weights, histories and positions. Carries what each Conv1d of layer.rs and array.rs owns.
 // Document 01, 'Description' (order of convolutions) and 'The recurrence'.
+#![tactic(auto)]
+
 ghost use Rattle.std.specs.Prelude.{◌≡◌, true, ◌+◌, ◌*◌, ◌≤◌, length, get_or};
 ghost use Rattle.lists.specs.Region.{Apart};
 ghost use Rattle.slot.specs.Play.{PlayFits, Played};

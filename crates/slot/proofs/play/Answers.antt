@@ -1,0 +1,14 @@
+use Rattle.shape.proofs.Bounds.{ring_le}
+use Rattle.slot.proofs.Laws.{conv_fits, place_in, played}
+use mathlib.Core.Path.{refl}
+use native.Mathlib.Omega.{arith}
+use Rattle.slot.proofs.play.Goals as goal
+
+pub conv-moved-requires : goal.conv-moved-requires
+conv-moved-requires c = conv_fits _ _ _ _ _ _ _ _ _ c.args.histories.now c.args.weights.now _ _ _ c.history_count.ensures c.weight_count.ensures c.ring_length.ensures c.requires
+
+pub overflow_cast-positions : goal.overflow_cast-positions
+overflow_cast-positions c = record { fits = omega (arith, place_in _ _ _ _ _ _ _ _ _ c.args.histories.now c.args.weights.now _ _ _ c.history_count.ensures c.weight_count.ensures c.ring_length.ensures c.requires _ _ _ _ c.conv-moved.ensures.0, ring_le c.requires.range) }
+
+pub returns : goal.returns
+returns c = played _ _ _ _ _ _ _ _ _ c.args.histories.now c.args.weights.now _ _ _ c.history_count.ensures c.weight_count.ensures c.ring_length.ensures c.requires _ _ _ _ c.conv-moved.ensures.0 c.args.positions.now refl refl
