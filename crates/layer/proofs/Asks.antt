@@ -25,7 +25,7 @@ use Rattle.description.specs.declared.places.Place.{Place}
 use Rattle.description.proofs.Slots.{slot_site, not_absent}
 use Rattle.slot.specs.Play.{PlayFits}
 use Rattle.slot.specs.Site.{SiteThere, SiteFits}
-use Rattle.layer.specs.Column.{is_blended, is_there, applies, applied_site, site, site', after}
+use Rattle.layer.specs.Column.{is_blended, is_there, applies, applied_site, site', after}
 use Rattle.layer.specs.Layered.{slot_place, slot_weights, memories_at, LayerFits}
 use Rattle.layer.specs.Pieces.{Behind, Room, ins_of, outs_of}
 use Rattle.layer.proofs.Places.{slot_within, slot_next}

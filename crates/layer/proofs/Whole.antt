@@ -29,7 +29,7 @@ use Rattle.description.specs.declared.parts.Part.TheVariants.{Absent, There}
 use Rattle.description.specs.declared.places.Place.{Place}
 use Rattle.slot.specs.Steps.{pushed, convolved}
 use Rattle.slot.specs.Site.{result_at}
-use Rattle.layer.specs.Column.{is_there, is_blended, applies, applied_site, site, site', after, conv_input, conv', conv_output, mixin_input, mixin', mixin_output, gated, z, head1x1', layer1x1', contribution, accumulated, signal}
+use Rattle.layer.specs.Column.{is_there, is_blended, applies, applied_site, site', after, conv_input, conv', conv_output, mixin_input, mixin', mixin_output, gated, z, head1x1', layer1x1', contribution, accumulated, signal}
 use Rattle.layer.specs.Slots.{turn_of}
 use Rattle.layer.proofs.Steps.{advance, unplayed}
 use Rattle.layer.proofs.Asks.{still}

@@ -1,4 +1,6 @@
 // Carries layer.rs: one layer over a block of columns. Document 01, 'The recurrence' (Layer).
+#![tactic(auto)]
+
 ghost use Rattle.std.specs.Prelude.{length};
 ghost use Rattle.layer.specs.Layered.{LayerFits, Layered};
 ghost use Rattle.layer.specs.Slots.{SlotsOf};

@@ -1,0 +1,18 @@
+use Rattle.layer.proofs.Past.{conv_absent, conv-past}
+use Rattle.layer.proofs.Asks.{conv_fits}
+use mathlib.Core.Path.{sym, ◌∙◌}
+use native.Mathlib.Omega.{arith}
+use Rattle.layer.proofs.sites.convolve.Goals as goal
+
+pub returns-in_default : goal.returns-in_default
+returns-in_default c = conv_absent c.requires.layer_fits _ c.requires.k_bound.0 (sym c.core.ensures ∙ c.in_default.is)
+
+pub play-requires : goal.play-requires
+play-requires c =
+    let e = c.place-at.ensures ∙ c.requires.slots_of.is _ (omega (arith, c.requires.k_bound.0)) in
+    rw e (conv_fits c.requires.layer_fits _ c.requires.k_bound.0 _ (sym c.core.ensures ∙ c.in-There.is) _ _ c.requires.k_bound.1 c.requires.k_bound.2 c.requires.k_bound.3)
+
+pub returns : goal.returns
+returns c =
+    let e = c.place-at.ensures ∙ c.requires.slots_of.is _ (omega (arith, c.requires.k_bound.0)) in
+    conv-past c.requires.layer_fits _ c.requires.k_bound.0 c.requires.k_bound.1.past _ (sym c.core.ensures ∙ c.in-There.is) (rw e at c.play.ensures)
