@@ -1,4 +1,4 @@
-/* The layer array's library for C. Build it with `rt staticlib wavenet`: target/staticlib/libwavenet.a.
+/* The layer array's library for C. Build it by `rt lib` in crates/wavenet: crates/wavenet/out/libwavenet.a.
  *
  * Every function takes any numbers and any lengths, ends, and does nothing undefined, as long as each pointer has as many numbers behind it as its length
  * says and the buffers do not overlap. It answers 0, or the refusal number that comes first in document 01's order; refused, it leaves every buffer as

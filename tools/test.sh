@@ -1,6 +1,6 @@
 #!/usr/bin/env bash
-# All tests: `rt ci` first (every crate proved from nothing, every must-fail edit refused, every program run), then the quick checks over the static
-# library that it proved. The last line is rt's 'N passed, M failed'; any failure ends the run before it.
+# All tests: `rt ci` first (every crate proved, every must-fail edit refused, every test and program run), then the quick checks over the static library
+# of what it proved. The last line is rt's 'N passed, M failed'; any failure ends the run before it. A must-fail edit that no longer reads fails too.
 set -euo pipefail
 cd "$(dirname "$0")/.."
 
@@ -13,12 +13,17 @@ need() { # the packages that the quick checks are built with
         { echo "cannot install ${missing[*]}: install them by hand and run this again" >&2; exit 1; }
 }
 
-need gcc libmpfr-dev
 verdict=$(mktemp)
 trap 'rm -f "$verdict"' EXIT
-echo "== rt ci: proofs from nothing, must-fail edits, programs"
-rt ci | tee "$verdict"
+echo "== rt ci: proofs, must-fail edits, tests, programs"
+rt ci 2>&1 | tee "$verdict"
+ok=$(grep '^rt: ok' "$verdict") || { echo "rt ci did not say that all is ok" >&2; exit 1; }
+if grep -qE ', [1-9][0-9]* bad' <<<"$ok"; then
+    echo "must-fail edits that cannot be applied or read any more (BAD EDIT, above) show nothing: mend them" >&2
+    exit 1
+fi
 
+need gcc libmpfr6
 echo "== the examples, held to what they should print"
 bash examples/play.sh >/dev/null
 target/examples/play | diff examples/c/expected.txt -
@@ -33,4 +38,4 @@ bash tools/compare/run.sh
 echo "== bad input at scale: right numbers, nothing touched"
 bash tools/faults/run.sh
 
-tail -n 1 "$verdict"
+grep -E '^[0-9]+ passed, [0-9]+ failed' "$verdict" | tail -n 1

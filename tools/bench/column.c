@@ -1,5 +1,5 @@
 /* One shape of the benchmark, for callgrind: ten layers of 16 (or WIDTH) channels, mode None, by single columns or blocks.
- *   gcc -O2 -Iinclude tools/bench/column.c target/staticlib/libwavenet.a -o target/column
+ *   gcc -O2 -Iinclude tools/bench/column.c crates/wavenet/out/libwavenet.a -o target/column
  *   target/column [ACTIVATION] [CALLS] [N] [WIDTH]      activation 0 Tanh, 1 ReLU; N columns a call */
 #include "wavenet.h"
 #include <stdio.h>

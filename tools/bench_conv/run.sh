@@ -15,14 +15,14 @@ build=$root/target/bench_conv
 mkdir -p "$build" docs
 # the original is read where it lies: the build names it through this link, and nothing of it is copied
 ln -sfn "$(cd "$(dirname "$original")" && pwd)/conv.rs" "$build/original.rs"
-rt staticlib conv_call >"$build/staticlib.log" || { cat "$build/staticlib.log"; exit 1; }
-rustc --edition 2021 -C opt-level=3 -C target-cpu=x86-64 tools/bench_conv/main.rs -L native="$root/target/staticlib" -o "$build/bench_conv"
+bash tools/library.sh conv_call
+rustc --edition 2021 -C opt-level=3 -C target-cpu=x86-64-v2 tools/bench_conv/main.rs -L native="$root/crates/conv_call/out" -o "$build/bench_conv"
 "$build/bench_conv" >"$build/table.md"
 {
     echo "# Speed of the convolution"
     echo
     echo "Written by \`tools/bench_conv/run.sh\`; $(rustc --version | cut -d' ' -f1,2), $(rt version | head -1)."
-    echo "Processor: $(sed -n 's/^model name[^:]*: //p' /proc/cpuinfo | head -1), used as a baseline x86-64 (SSE2) by both."
+    echo "Processor: $(sed -n 's/^model name[^:]*: //p' /proc/cpuinfo | head -1), used as an x86-64-v2 by both."
     echo
     cat "$build/table.md"
 } >docs/conv-speed.md

@@ -5,7 +5,9 @@
 #   start NAME ..    that program, run
 # Only copies under target/ are patched; nothing of the original comes into the repository.
 build=target/compare
-flags=(--edition 2021 -C opt-level=3 -C target-cpu=x86-64 --check-cfg 'cfg(original, test)')
+archive=crates/wavenet/out/libwavenet.a
+# the processor that rt builds the library for
+flags=(--edition 2021 -C opt-level=3 -C target-cpu=x86-64-v2 --check-cfg 'cfg(original, test)')
 
 fail() { echo "$1" >&2; exit 1; }
 
@@ -54,18 +56,10 @@ original() { # SOURCE: the original with our functions, and with its own
     flags+=(--cfg original)
 }
 
-# the static library, built anew where a source is younger
-library() {
-    local a=target/staticlib/libwavenet.a
-    if [ ! -f $a ] || [ -n "$(find crates -name '*.rt' -newer $a | head -1)" ]; then
-        rt staticlib wavenet >$build/library.log 2>&1 || fail "$(tail -20 $build/library.log)"
-    fi
-}
-
 prepare() {
     command -v rustc >/dev/null || { echo "skipped: there is no rustc to build this with"; exit 0; }
     mkdir -p $build
-    library
+    bash tools/library.sh wavenet
     if [ -f "${1:-}/src/wavenet/array.rs" ]; then
         original "$1"
     elif [ -n "${1:-}" ]; then
@@ -76,7 +70,7 @@ prepare() {
 }
 
 program() {
-    rustc "${flags[@]}" -C link-arg=target/staticlib/libwavenet.a --crate-name "$1" "tools/$1/main.rs" -o "$build/$1"
+    rustc "${flags[@]}" -C link-arg=$archive --crate-name "$1" "tools/$1/main.rs" -o "$build/$1"
 }
 
 start() {

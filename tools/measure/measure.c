@@ -1,16 +1,26 @@
-/* Measures the proved exp and tanh, linked from target/staticlib/libwavenet.a, against an independent value of higher precision on bit patterns:
+/* Measures the proved exp and tanh, linked from the library's archive, against an independent value of higher precision on bit patterns:
  * double (53 digits) for every input, and MPFR (200 digits) wherever the float nearest to that is in doubt.
  * For each function: how many floats lie between the result and the correctly rounded value, how far the result is from the true value in units of
  * the float spacing there, and the worst inputs. Every stated fact is tried on every pattern as well.
  *
  * usage: measure STRIDE   1 takes all 2^32 patterns (minutes, with progress), 10007 a quick sample.   exit 1: above 2 floats, or a fact is broken */
 #include <math.h>
-#include <mpfr.h>
 #include <pthread.h>
 #include <stdint.h>
 #include <stdio.h>
 #include <stdlib.h>
 #include <string.h>
+
+#ifdef HAS_MPFR_H
+#include <mpfr.h>
+#else
+/* What is used of MPFR 4, for machines that have its library (which gcc brings) and no header. */
+typedef struct { long precision; int sign; long exponent; unsigned long *digits; } mpfr_t[1];
+enum { MPFR_RNDN };
+void mpfr_init2(mpfr_t, long), mpfr_clear(mpfr_t), mpfr_free_cache(void);
+int mpfr_set_flt(mpfr_t, float, int), mpfr_tanh(mpfr_t, const mpfr_t, int), mpfr_exp(mpfr_t, const mpfr_t, int);
+float mpfr_get_flt(const mpfr_t, int);
+#endif
 
 float wavenet_exp(float x);
 float wavenet_tanh(float x);
@@ -29,11 +39,13 @@ static int64_t place(float f) { uint32_t b = to_bits(f); return b & 0x80000000u 
 /* the float nearest to the true value, by MPFR; ties cannot be, as exp and tanh are irrational but at 0 */
 static float by_mpfr(int which, float x) {
     mpfr_t a, r;
-    mpfr_inits2(200, a, r, (mpfr_ptr)0);
+    mpfr_init2(a, 200);
+    mpfr_init2(r, 200);
     mpfr_set_flt(a, x, MPFR_RNDN);
     if (which) mpfr_tanh(r, a, MPFR_RNDN); else mpfr_exp(r, a, MPFR_RNDN);
     float f = mpfr_get_flt(r, MPFR_RNDN);
-    mpfr_clears(a, r, (mpfr_ptr)0);
+    mpfr_clear(a);
+    mpfr_clear(r);
     return f;
 }
 
