@@ -17,9 +17,9 @@ verdict=$(mktemp)
 trap 'rm -f "$verdict"' EXIT
 echo "== rt ci: proofs, must-fail edits, tests, programs"
 rt ci 2>&1 | tee "$verdict"
-ok=$(grep '^rt: ok' "$verdict") || { echo "rt ci did not say that all is ok" >&2; exit 1; }
+ok=$(grep '^rt: ok' "$verdict") || { echo "rt ci did not say that all is ok"; exit 1; }
 if grep -qE ', [1-9][0-9]* bad' <<<"$ok"; then
-    echo "must-fail edits that cannot be applied or read any more (BAD EDIT, above) show nothing: mend them" >&2
+    echo "must-fail edits that cannot be applied or read any more (BAD EDIT, above) show nothing: mend them"
     exit 1
 fi
 
