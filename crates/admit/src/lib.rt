@@ -1,5 +1,7 @@
 // The check of a call: it touches nothing, and hands back the refusal or the sizes. Carries the asserts of conv.rs and
 // film.rs on lengths and on the size of a block. Document 01, 'Refusal numbers' 1 to 8; the plan's 9 is in plan.rt.
+#![tactic(auto)]
+
 pub mod lengths;
 pub mod places;
 pub mod plan;

@@ -1,5 +1,5 @@
 -- Planar blocks: number at channel x n + column. Document 01, 'The recurrence' (Planar).
-use Rattle.std.specs.Prelude.{List, map, ℕ, ◌+◌, ◌*◌, ◌/◌, ◌%◌, get_or, Float}
+use Rattle.std.specs.Prelude.{List, ℕ, ◌+◌, ◌*◌, ◌/◌, ◌%◌, Float}
 use Rattle.lists.specs.Tab.{at, tab}
 use Rattle.description.specs.Records.{array_of}
 use Rattle.array.specs.Stages.{Column}

@@ -1,6 +1,6 @@
 -- The refusal numbers 6 to 9: "given exactly when", and the refusal of each call. Document 01, 'Refusal numbers'. Each test presumes the lower ones
 -- passed.
-use Rattle.std.specs.Prelude.{List, [], ◌∷◌, Bool, true, false, cond, not, ◌||◌, ℕ, ◌*◌, eqb, ltb, length}
+use Rattle.std.specs.Prelude.{List, [], ◌∷◌, Bool, false, cond, not, ◌||◌, ℕ, ◌*◌, eqb, ltb, length}
 use Rattle.shape.specs.Counts.{ring_length}
 use Rattle.turns.specs.Plan.{keeps_rule}
 use Rattle.description.specs.Records.{array_of}

@@ -1,7 +1,7 @@
 -- One turn of the array: a stage's next columns. Document 01, 'Plans': on the stage's next count columns its results, histories and positions are the
 -- recurrence's for that stage; the histories and positions of all other stages, and the signal, accumulator and outputs of all other columns, are what
 -- they were.
-use Rattle.std.specs.Prelude.{◌≡◌, cond, List, ℕ, zero, suc, ◌+◌, ◌-◌, ◌*◌, ◌≤◌, ◌<◌, min, max, ltb, Float}
+use Rattle.std.specs.Prelude.{◌≡◌, cond, List, ℕ, zero, suc, ◌+◌, ◌-◌, ◌*◌, ◌≤◌, ◌<◌, ltb, Float}
 use Rattle.std.specs.Float.{nan}
 use Rattle.lists.specs.Tab.{at, tab}
 use Rattle.lists.specs.Region.{Apart, Free}

@@ -1,6 +1,6 @@
 -- What a turn of a stage asks, and what the turn of each kind of stage does: a turn by the definition (TurnDone), whatever the buffers hold that this
 -- kind of stage is not lent. Document 01, 'Plans'.
-use Rattle.std.specs.Prelude.{◌≡◌, List, ℕ, zero, suc, ◌+◌, ◌*◌, ◌≤◌, ◌<◌, length, get_or, Float}
+use Rattle.std.specs.Prelude.{◌≡◌, List, ℕ, suc, ◌+◌, ◌*◌, ◌≤◌, ◌<◌, length, get_or, Float}
 use Rattle.shape.specs.declared.Shape.{Shape}
 use Rattle.shape.specs.Counts.{ring_length}
 use Rattle.description.specs.Numbers.{layer_count}

@@ -1,4 +1,6 @@
 // The turn function: a stage's next columns. Carries array.rs. Document 01, 'Plans' and 'The recurrence' (Array).
+#![tactic(auto)]
+
 ghost use Rattle.std.specs.Prelude.{◌≡◌, suc, length};
 ghost use Rattle.array.specs.Turn.{start_of, TurnDone};
 ghost use Rattle.stage.specs.Turns.{Blocks, Placed, StageFits, changing_of, given_of};

@@ -1,0 +1,42 @@
+use mathlib.Core.Path.{refl, sym, ◌∙◌, ap}
+use Prim.Native.Nat.{◌*◌}
+use native.Mathlib.Omega.{arith}
+use Rattle.description.proofs.Sound.{length_is}
+use Rattle.description.specs.declared.records.ArrayRecord.{ArrayRecord}
+use Rattle.stage.proofs.Fitting.{copy_fits, layer_fits, slots_fit, end_is, layer_turn, result_past}
+use Rattle.stage.proofs.middle.layer_turn.Goals as goal
+
+pub read_array-a-requires : goal.read_array-a-requires
+read_array-a-requires c = omega (arith, length_is c.args.description.now c.requires.stage_fits.sound)
+
+pub layer_record-r-requires : goal.layer_record-r-requires
+layer_record-r-requires c = omega (arith, length_is c.args.description.now c.requires.stage_fits.sound, c.requires.l_bound.0)
+
+pub slots_from-slots-requires : goal.slots_from-slots-requires
+slots_from-slots-requires c =
+    let f = slots_fit c.args.weights.now c.args.histories.now c.requires.stage_fits c.requires.l_bound.0 c.read_array-a.ensures c.layer_record-r.ensures in
+    record { array_ranges = f.0; layer_ranges = f.1; low = f.2 }
+
+pub bring-requires : goal.bring-requires
+bring-requires c =
+    record { copy_fits = copy_fits c.requires.stage_fits c.read_array-a.ensures c.requires.stage_fits.scratch_is; condition_len = c.requires.l_bound.1 ∙ ap (λ (a : ArrayRecord). a.condition * c.args.span.n) (sym c.read_array-a.ensures) }
+
+pub layer-result-requires : goal.layer-result-requires
+layer-result-requires c =
+    record {
+      layer_fits = layer_fits c.args.weights.now c.args.histories.now c.requires.stage_fits c.requires.l_bound.0 c.read_array-a.ensures c.layer_record-r.ensures c.slots_from-slots.ensures.0
+          (c.bring.auto.scratch ∙ c.requires.stage_fits.scratch_is);
+      slots_of = c.slots_from-slots.ensures.1;
+    }
+
+pub hand_on-requires : goal.hand_on-requires
+hand_on-requires c =
+    record { copy_fits = copy_fits c.requires.stage_fits c.read_array-a.ensures (c.layer-result.auto.work ∙ c.bring.auto.scratch ∙ c.requires.stage_fits.scratch_is); size_bound = result_past c.args.span.size c.layer-result.result c.layer-result.ensures.result_in }
+
+pub returns : goal.returns
+returns c =
+    record {
+      value = c.slots_from-slots.ensures.2 ∙ end_is c.args.weights.now c.args.histories.now c.requires.stage_fits c.requires.l_bound.0 c.read_array-a.ensures c.layer_record-r.ensures;
+      layer_turn = layer_turn c.args.weights.now c.args.histories.now c.requires.stage_fits c.requires.l_bound.0 c.args.condition.now _ _ _ _ refl
+          c.read_array-a.ensures c.layer_record-r.ensures c.slots_from-slots.ensures.0 c.bring.ensures c.layer-result.ensures c.hand_on.ensures;
+    }
