@@ -85,14 +85,15 @@ def main():
     if len(sys.argv) < 2 or sys.argv[1] not in known:
         sys.exit(__doc__)
     crate, lines = sys.argv[1], int(sys.argv[2]) if len(sys.argv) > 2 else 20
-    ran = subprocess.run(["rt", "check"], cwd="crates/" + crate, capture_output=True, text=True)
+    how = {"cwd": "crates/" + crate, "stdout": subprocess.PIPE, "stderr": subprocess.STDOUT, "text": True}
+    ran = subprocess.run(["rt", "check"], **how)
     if ran.returncode:
-        sys.exit(ran.stdout[-2000:] + ran.stderr[-2000:])
+        sys.exit(ran.stdout[-2000:])
     with tempfile.TemporaryDirectory() as folder:
-        ran = subprocess.run(words(known, crate, folder), cwd="crates/" + crate, capture_output=True, text=True)
+        ran = subprocess.run(words(known, crate, folder), **how)
         modules = saved(folder)
     if not modules:
-        sys.exit(ran.stdout[-2000:] + ran.stderr[-2000:])
+        sys.exit(ran.stdout[-2000:])
     kinds, functions, each = collections.Counter(), collections.Counter(), collections.Counter()
     for (before, _), (now, module) in zip(modules, modules[1:]):
         each[module] += now - before
