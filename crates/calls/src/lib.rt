@@ -1,5 +1,7 @@
 // The calls: a single column, a block, a planned block. Carries process_sample and process_block of array.rs, with checks in front.
 // Document 01, 'Refusal numbers' 1 to 9, 'Plans' and 'What the contracts have to say'.
+#![tactic(auto)]
+
 ghost use Rattle.array.specs.Refusals.{block_refusal, column_refusal, planned_refusal};
 ghost use Rattle.array.specs.Calls.{Answers};
 ghost use Rattle.admit.specs.Admits.{lent_of};

@@ -6,7 +6,7 @@ use Prim.Native.Nat.{ℕ, ◌+◌, ◌≤◌, ◌<◌}
 use native.Mathlib.Omega.{arith}
 use lib.ListN.{length, get_or}
 use lib.Ieee.{Float}
-use Rattle.lists.specs.Tab.{tab, at}
+use Rattle.lists.specs.Tab.{tab}
 use Rattle.lists.proofs.Tab.{length-tab, at-tab, is_tab}
 use Rattle.lists.proofs.Parts.{length_part}
 use Rattle.ring.specs.Memory.{Memory}

@@ -7,7 +7,6 @@ use native.Mathlib.Omega.{arith}
 use lib.Dec.{ltb}
 use lib.ListN.{length, get_or}
 use borrow.Author.Tests.{lt-ltb, le-ltb}
-use Rattle.lists.specs.Tab.{at}
 use Rattle.description.specs.Numbers.{layer_count}
 use Rattle.description.specs.Records.{array_of, layer_of}
 use Rattle.description.specs.Parts.{each_layer, slots_of, parts_to, parts_of, rechannel_of, head_rechannel_of}

@@ -1,0 +1,5 @@
+use Rattle.calls.proofs.Answering.{column_as}
+use Rattle.calls.proofs.column.Goals as goal
+
+pub returns : goal.returns
+returns c = column_as _ c.block.ensures
