@@ -1,7 +1,7 @@
 /* The layer array's library for C. Build it by `rt lib` in crates/wavenet: crates/wavenet/out/libwavenet.a.
  *
  * Every function takes any numbers and any lengths, ends, and does nothing undefined, as long as each pointer has as many numbers behind it as its length
- * says and the buffers do not overlap. It answers 0, or the refusal number that comes first in document 01's order; refused, it leaves every buffer as
+ * says and the buffers do not overlap. It answers 0, or the refusal number that comes first in this order; refused, it leaves every buffer as
  * it was, scratch too.
  *
  *   1 the description is shorter than 8 numbers, or not 8 + 24 L long

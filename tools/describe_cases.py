@@ -1,7 +1,7 @@
 #!/usr/bin/env python3
 """Writes the cases of the program `describe` (crates/describe/stdin) and what it has to print (crates/describe/stdout).
 
-The answers come from this script alone: it is written from document 01, sections 'Description', 'Refusal numbers' and 'The recurrence' (Reset), and
+The answers come from this script alone: it is written from docs/RULES.md, sections 'Description', 'Refusal numbers' and 'The recurrence' (Reset), and
 shares nothing with the Rattle code or its definitions. It walks a description as dictionaries and lists of plain tuples, tests the refusals in their
 order over the whole description, and counts the parts one by one.
 

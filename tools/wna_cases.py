@@ -1,7 +1,7 @@
 #!/usr/bin/env python3
 """Writes the inputs of the programs `ampline` and `replay` and what they have to print.
 
-The cases here are made from document 01's case A: every line of a played column is one that document 01 prints for it, and the other
+The cases here are made from case A of docs/RULES.md: every line of a played column is one that it prints for it, and the other
 lines are its refusals. The cases of the folder SAMPLE are files CASE.wna with what has to be printed in CASE.out (docs/replay.md).
 Run from the repository's root: python3 tools/wna_cases.py SAMPLE
 """

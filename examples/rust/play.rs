@@ -25,7 +25,7 @@ mod ffi {
     }
 }
 
-/// A refusal: document 01's number, 1 to 9.
+/// A refusal: its number in docs/RULES.md, 1 to 9.
 #[derive(Debug, PartialEq, Eq)]
 pub struct Refused(pub u32);
 

@@ -36,7 +36,7 @@ impl Run {
         }
     }
 
-    /// The answer of the sizes call is document 01's.
+    /// The answer of the sizes call is the rules'.
     fn same_sizes(&mut self, d: &[u32]) -> Result<Option<shapes::Array>, String> {
         self.desk.all[DESCRIPTION].set(d, true);
         self.desk.all[SIZES].set(&[9; 5], true);

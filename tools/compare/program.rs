@@ -1,4 +1,4 @@
-//! Document 01, 'The program', written plainly: what `ampline` prints for a file, and how such a file is put together.
+//! docs/RULES.md, 'The program', written plainly: what `ampline` prints for a file, and how such a file is put together.
 
 use common::calls::{self, Block, Way};
 use common::recurrence::{self, Engine, Memory};

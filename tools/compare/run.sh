@@ -1,5 +1,5 @@
 #!/usr/bin/env bash
-# Holds our exported library, the original Rust and a plain recurrence written from document 01 against each other: outputs, histories and positions,
+# Holds our exported library, the original Rust and a plain recurrence written from docs/RULES.md against each other: outputs, histories and positions,
 # bit for bit with all NaNs as one. In the Rust only tanh, exp and ReLU's max are replaced, by ours.
 #   tools/compare/run.sh [PLAYS] [SEED] [DIR]     4000 plays in about a minute; DIR holds the original's src/ (default: ../shared/docs/src)
 #   tools/compare/run.sh --one SEED INDEX         one play of a run again

@@ -12,7 +12,7 @@ use std::path::Path;
 /// The largest file in bytes: the cases are kept in the repository.
 const MOST_BYTES: usize = 6000;
 
-/// Case A of document 01.
+/// Case A of docs/RULES.md.
 fn case_a() -> File {
     let mut description = vec![1, 1, 1, 1, 1, 1, 0, 1, 1, 2, 2, 1, 1, 0, 1, 0, 0, 0, 1, 1];
     description.resize(32, 0);

@@ -64,7 +64,7 @@ impl Call {
         positions.iter_mut().zip(&self.positions).for_each(|(to, p)| *to = *p);
     }
 
-    /// The refusal that document 01 gives it.
+    /// The refusal that the rules give it.
     pub fn due(&self, desk: &Desk) -> u32 {
         match self.which {
             SIZES => shapes::take_apart(&self.description).map_or_else(|number| number, |_| 0),

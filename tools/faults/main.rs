@@ -1,4 +1,4 @@
-//! Bad input at scale: calls with no fault, one, or several. The refusal is the one that document 01 gives, and a refused call leaves every buffer, and
+//! Bad input at scale: calls with no fault, one, or several. The refusal is the one that docs/RULES.md gives, and a refused call leaves every buffer, and
 //! everything around it, byte for byte. See run.sh.
 
 mod asked;

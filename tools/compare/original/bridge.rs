@@ -1,6 +1,6 @@
 //! The original's LayerArray, built from our number description and weights, and its memory in our order.
 //!
-//! It reads the description for itself, place by place as document 01 numbers them, and shares nothing with the plain recurrence: a slip in one reading
+//! It reads the description for itself, place by place as docs/RULES.md numbers them, and shares nothing with the plain recurrence: a slip in one reading
 //! shows as a difference.
 
 use super::activation::Activation;
@@ -96,7 +96,7 @@ impl Original {
         self.0.process_block(input, condition, head_in, head_out, array_out, n);
     }
 
-    /// Every convolution, in document 01's order.
+    /// Every convolution, in the rules' order.
     fn convs(&mut self) -> Vec<&mut Conv1d> {
         let mut all = vec![&mut self.0.rechannel];
         for y in &mut self.0.layers {

@@ -13,7 +13,7 @@ pub mod error {
 pub mod model {
     include!("gating_mode.rs");
 
-    /// Only `Activation::from_spec` reads it, which is left out (document 01, 'Port order and shape').
+    /// Only `Activation::from_spec` reads it, which is left out.
     pub enum ActivationSpec {
         Named { name: String, negative_slope: Option<f32> },
         Unsupported(String),

@@ -1,4 +1,4 @@
-//! The calls of the library by document 01, written plainly: refusals 6 to 9, the rule of plans, and what an accepted call leaves.
+//! The calls of the library by docs/RULES.md, written plainly: refusals 6 to 9, the rule of plans, and what an accepted call leaves.
 
 use crate::recurrence::{Column, Engine, Given};
 use crate::shapes::{self, Array};

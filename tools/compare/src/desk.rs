@@ -51,7 +51,7 @@ impl Desk {
         }
     }
 
-    /// The refusal that document 01 gives the call on what lies here now.
+    /// The refusal that the rules give the call on what lies here now.
     pub fn due(&self, way: &Way) -> u32 {
         calls::refusal(self.all[DESCRIPTION].words(), way, &self.lengths(), self.all[POSITIONS].words())
     }

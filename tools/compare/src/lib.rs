@@ -1,4 +1,4 @@
-//! What the comparison, the fault runs and the benchmark share: document 01 written down plainly (`shapes`, `recurrence`, `calls`), the exported
+//! What the comparison, the fault runs and the benchmark share: docs/RULES.md written down plainly (`shapes`, `recurrence`, `calls`), the exported
 //! functions over guarded memory (`library`, `desk`, `lent`), and things to try (`random`, `invent`).
 
 pub mod calls;

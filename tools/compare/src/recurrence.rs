@@ -1,4 +1,4 @@
-//! Document 01, 'The recurrence', written plainly: one stage on one column at a time, every rounding in the paper's order, no thought for speed.
+//! docs/RULES.md, 'The recurrence', written plainly: one stage on one column at a time, every rounding in the rules' order, no thought for speed.
 //! Tanh and exp are the library's own.
 
 use crate::library;

@@ -1,4 +1,4 @@
-//! Document 01, 'Description' and refusals 1 to 5, written plainly: a description taken apart into its convolutions.
+//! docs/RULES.md, 'Description' and refusals 1 to 5, written plainly: a description taken apart into its convolutions.
 
 pub const MOST: usize = 1_048_576;
 pub const HEAD: usize = 8;
