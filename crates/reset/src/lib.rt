@@ -1,5 +1,7 @@
 // Reset: the memory of an array as it is before the first column. Carries the `reset` functions of conv.rs, film.rs, layer.rs and array.rs.
 // Document 01, 'The recurrence' (Reset) and 'Refusal numbers' 1 to 5 and 7.
+#![tactic(auto)]
+
 ghost use Rattle.std.specs.Prelude.{◌≡◌, ◌+◌, ◌≤◌, length};
 ghost use Rattle.std.proofs.lemmas.List.Edits.{sets};
 ghost use Rattle.description.specs.Parts.{parts_of};
