@@ -1,4 +1,6 @@
 // The exported functions, for C and Rust: numbers for answers, lent slices, no requires. A slice is a pointer and then a length.
+#![tactic(auto)]
+
 ghost use Rattle.std.specs.Prelude.{◌≡◌, cond, ◌≤◌, eqb};
 ghost use Rattle.exponent.specs.Exp.{E};
 ghost use Rattle.tangent.specs.Tanh.{Tanh};

@@ -1,0 +1,4 @@
+use Rattle.wavenet.proofs.wavenet_column.Goals as goal
+
+pub returns : goal.returns
+returns c = c.column.ensures

@@ -1,0 +1,14 @@
+use Rattle.description.proofs.Facts.{sound_only, refused_only}
+use Rattle.description.specs.Answers.{listed}
+use Rattle.wavenet.proofs.Sizes.{sizes_small}
+use mathlib.Core.Path.{sym, ◌∙◌, ap}
+use Rattle.wavenet.proofs.wavenet_sizes.Goals as goal
+
+pub numbers-requires : goal.numbers-requires
+numbers-requires c = let a = sound_only c.args.description.now (rw c.in-Sound.is at c.sizes.ensures) in rw a.1 (sizes_small c.args.description.now a.0)
+
+pub returns-in-Refused : goal.returns-in-Refused
+returns-in-Refused c = let a = refused_only c.args.description.now (rw c.in-Refused.is at c.sizes.ensures) in record { value = a.0; sizes_after = rw (a.0, a.1) }
+
+pub returns-in-Sound : goal.returns-in-Sound
+returns-in-Sound c = let a = sound_only c.args.description.now (rw c.in-Sound.is at c.sizes.ensures) in record { value = sym a.0; sizes_after = c.numbers.ensures ∙ ap listed a.1 }
