@@ -1,3 +1,4 @@
+-- `call` meets its contract: each way out by what its test told (Admitting).
 use mathlib.Core.Path.{subst, sym}
 use native.Mathlib.Omega.{arith}
 use Rattle.description.proofs.Sound.{array_in_range, length_is}

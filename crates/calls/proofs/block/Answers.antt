@@ -1,3 +1,4 @@
+-- Each way out meets the contract (Answering): refused, no columns, played.
 use native.Mathlib.Omega.{arith}
 use Rattle.calls.proofs.Answering.{block_refused, nothing_as, played_as, fit_of, sound_block, sound_admitted, size_is, size_low, used_in, cut_long}
 use Rattle.calls.proofs.block.Goals as goal

@@ -1,3 +1,4 @@
+-- A block of one.
 use Rattle.calls.proofs.Answering.{column_as}
 use Rattle.calls.proofs.column.Goals as goal
 

@@ -1,3 +1,4 @@
+-- Each way out meets the contract (Answering): refused by 1 to 8, by 9, no columns, played.
 use mathlib.Core.Path.{ap}
 use Prim.Native.Nat.{ℕ, ◌+◌}
 use native.Mathlib.Omega.{arith}

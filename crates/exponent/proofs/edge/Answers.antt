@@ -1,3 +1,4 @@
+-- `edge` is E between the guards: the code's two positive parts are the definition's, and the last test is its min.
 use lib.Ieee.{of_bits, nan_bits, binary32}
 use Rattle.single.proofs.Nan.{no_nan_pattern}
 use Rattle.exponent.proofs.Rounding.{e_back, q_fits, q_back, minus_fits, minus_back, up_small, down_small, edge_is}

@@ -1,3 +1,4 @@
+-- `entries` is the specs' table: the two lists are the same.
 use Rattle.exponent.specs.Table.{table}
 use mathlib.Core.Path.{refl}
 use Rattle.exponent.proofs.entries.Goals as goal

@@ -1,3 +1,4 @@
+-- `exp_by` is E: one comparison parts the two ways, and both are E of the pattern.
 use Rattle.exponent.specs.Exp.{E}
 use mathlib.Core.Path.{◌∙◌}
 use Rattle.exponent.proofs.exp_by.Goals as goal

@@ -1,3 +1,4 @@
+-- `magnitude_of` is the definition's magnitude: a shift by 63 in place of a longer one leaves the same, nothing.
 use Rattle.exponent.specs.Exp.{magnitude}
 use Rattle.exponent.proofs.Ranges.{shift_far}
 use native.Mathlib.Omega.{arith}

@@ -1,3 +1,4 @@
+-- `ordinary` is E below 87: the field is not negative, nothing is shifted out, and the pattern stays below the infinity's.
 use lib.Ieee.{of_bits, binary32}
 use Rattle.single.proofs.Nan.{no_nan_pattern}
 use Rattle.exponent.proofs.Rounding.{e_back, q_fits, q_back, q_non_neg, q_lt, r_lt, exp_is}

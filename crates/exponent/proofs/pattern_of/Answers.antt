@@ -1,3 +1,4 @@
+-- `pattern_of` sums the field and the rounded digits, which fit.
 use Rattle.exponent.proofs.Ranges.{shift_le}
 use Rattle.exponent.specs.Exp.{nearest}
 use mathlib.Core.Path.{◌≡◌}

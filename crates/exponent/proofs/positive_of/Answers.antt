@@ -1,3 +1,4 @@
+-- `positive_of` is 0 for a negative number and the number itself otherwise.
 use mir.Facts.{to_z-of_z, Fits-nat_abs}
 use Rattle.exponent.proofs.Signed.{negative_none, not_negative, positive_is}
 use Rattle.exponent.proofs.positive_of.Goals as goal

@@ -1,3 +1,4 @@
+-- `power_of` is the definition's power: its products fit by proofs/Ranges.antt, and the steps are the same.
 use Rattle.exponent.specs.Exp.{power}
 use Rattle.exponent.proofs.Ranges.{product_lt, power_lt}
 use native.Mathlib.Omega.{arith}

@@ -1,3 +1,4 @@
+-- `raised_of` is the definition's exponent and power: two splits of small numbers, each as it is defined.
 use Rattle.exponent.specs.Exp.{scaled}
 use Rattle.exponent.specs.Split.{parts}
 use Rattle.exponent.proofs.Ranges.{scaled_small, scaled_back, whole_small, exponent_small, raised_is}

@@ -1,3 +1,4 @@
+-- `scaled_of` is the definition's signed number: the factor is 1 or -1 by the pattern's sign.
 use lib.Dec.{ltb}
 use Rattle.exponent.proofs.Signed.{signed, back, factor_fits, signed_is, mag_signed}
 use lib.IntN.{pos}

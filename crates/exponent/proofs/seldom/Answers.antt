@@ -1,3 +1,4 @@
+-- `seldom` is E of any pattern: each return is one rule of the definition, by proofs/Guards.antt.
 use lib.Dec.{lit<}
 use Rattle.single.proofs.Nan.{nan_pattern}
 use lib.Ieee.{of_bits, nan_bits, binary32}

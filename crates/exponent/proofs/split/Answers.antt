@@ -1,3 +1,4 @@
+-- `split` gives the definition's two parts: the shift rounds down, and what is left of the number is the remainder.
 use Prim.Native.Nat.{◌^◌}
 use Rattle.exponent.proofs.Signed.{z_back, quotient_back, by_is, by_back, product_fits, product_back, rest_is, rest_back, remainder_fits, power_small, shifted, parts_split}
 use lib.Pow.{pow_pos}

@@ -1,3 +1,4 @@
+-- `film::process_in_place` meets its contract. What is read was not written yet, so each store is the rule's, by `film-turn`.
 use mathlib.Core.Path.{◌≡◌, sym}
 use native.Mathlib.Omega.{arith}
 use borrow.Author.Rules.{rules}

@@ -1,3 +1,4 @@
+-- Five pieces, each of which asks what the one before leaves; layer-is joins them.
 use Rattle.layer.proofs.All.{layer_is}
 use Rattle.layer.proofs.Whole.{fits_on}
 use Rattle.layer.proofs.layer.Goals as goal

@@ -1,3 +1,4 @@
+-- `reset` meets its contract: each way out by what its test told (Resetting).
 use native.Mathlib.Omega.{arith}
 use Rattle.description.proofs.Sound.{length_is}
 use Rattle.reset.proofs.Resetting.{done, other_histories, other_positions, passed, positions_fit, refused}

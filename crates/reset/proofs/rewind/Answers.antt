@@ -1,3 +1,4 @@
+-- `rewind` meets its contract. The loop's invariant: the positions of the parts passed, then the old ones (Filling).
 use mathlib.Core.List.{◌++◌}
 use mathlib.Core.Path.{subst, refl, sym, ◌∙◌, ap}
 use Prim.Native.Nat.{ℕ, ◌+◌, ◌*◌, ◌<◌}

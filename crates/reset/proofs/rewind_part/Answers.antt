@@ -1,3 +1,4 @@
+-- `rewind_part` stores the position of a part that is there, and nothing for an absent one.
 use mathlib.Core.Path.{◌≡◌}
 use native.Mathlib.Omega.{arith}
 use Rattle.description.specs.Sizes.{positions_of}

@@ -1,3 +1,4 @@
+-- `silence` fills from the front. The loop's invariant: +0 up to i, the old numbers from there on.
 use mathlib.Core.List.{List, ◌++◌}
 use mathlib.Core.Path.{◌≡◌, refl, ◌∙◌, ap}
 use Prim.Native.Nat.{◌+◌}

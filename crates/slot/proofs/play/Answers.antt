@@ -1,3 +1,4 @@
+-- The parts that the code cuts are those of the place, and the convolution's contract on them is the record Played (Laws).
 use Rattle.shape.proofs.Bounds.{ring_le}
 use Rattle.slot.proofs.Laws.{conv_fits, place_in, played}
 use mathlib.Core.Path.{refl}

@@ -1,3 +1,4 @@
+-- An absent site changes nothing; one that is there is `play` and then FiLM in place (Sites).
 use Rattle.slot.proofs.Sites.{site_absent, film_fits, site_there}
 use Rattle.slot.proofs.site_in.Goals as goal
 

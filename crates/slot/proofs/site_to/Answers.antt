@@ -1,3 +1,4 @@
+-- An absent site answers `from` and changes nothing; one that is there is `play` and then FiLM into `to` (Sites).
 use native.Mathlib.Omega.{arith}
 use Rattle.slot.proofs.Sites.{site_absent, film_fits, site_there}
 use Rattle.slot.proofs.site_to.Goals as goal

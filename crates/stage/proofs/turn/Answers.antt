@@ -1,3 +1,4 @@
+-- Each of the three ways is a turn of stage k (Turning).
 use Prim.Native.Nat.{suc, ◌-◌}
 use native.Mathlib.Omega.{arith}
 use Rattle.description.proofs.Sound.{length_is, layers_of}

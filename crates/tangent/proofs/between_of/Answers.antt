@@ -1,3 +1,4 @@
+-- `between_of` is the definition's result between the guards, by proofs/Guards.antt; it fits, since it is at most the pattern of 1.
 use native.Mathlib.Omega.{arith}
 use Rattle.tangent.proofs.Guards.{y_le, between_le, between_is}
 use Rattle.tangent.proofs.between_of.Goals as goal

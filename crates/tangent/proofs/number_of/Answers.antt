@@ -1,3 +1,4 @@
+-- `number_of` reads the number that the definition names, from a lent array that is the rows.
 use mathlib.Core.Path.{refl}
 use mir.Syntax.{w32}
 use mir.Val.{SFits}

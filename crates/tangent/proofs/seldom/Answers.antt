@@ -1,3 +1,4 @@
+-- `seldom` is Tanh from 10 up: each return is one rule of the definition, by proofs/Guards.antt.
 use mathlib.Core.Path.{sym, ◌∙◌, ap}
 use native.Mathlib.Omega.{arith}
 use lib.Dec.{lit<}

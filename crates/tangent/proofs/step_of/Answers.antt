@@ -1,3 +1,4 @@
+-- `step_of` is the definition's step: its product and its sum fit, by proofs/Steps.antt.
 use mathlib.Core.Path.{refl}
 use mir.Facts.{to_z-of_z}
 use Rattle.tangent.proofs.Steps.{Small, v_back, d_back, product_fits, machine_is, step_le, step_fits}

@@ -1,3 +1,4 @@
+-- `tanh_by` is Tanh: two comparisons part the ways, and each is Tanh of the pattern, by proofs/Guards.antt.
 use mathlib.Core.Path.{sym, ◌∙◌, subst}
 use native.Mathlib.Omega.{arith}
 use lib.Dec.{T}

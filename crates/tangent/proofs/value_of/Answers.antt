@@ -1,3 +1,5 @@
+-- `value_of` is the definition's quintic: each step is the definition's, its numbers stay small, and the last is not negative, by proofs/Range.antt.
+--
 use native.Mathlib.Omega.{arith}
 use Rattle.tangent.specs.Tanh.{slope_at}
 use Rattle.tangent.proofs.Steps.{made, passed, passed_small, next}

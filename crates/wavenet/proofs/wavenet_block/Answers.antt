@@ -1,3 +1,4 @@
+-- What `calls::block` promises is what is promised here.
 use Rattle.wavenet.proofs.wavenet_block.Goals as goal
 
 pub returns : goal.returns

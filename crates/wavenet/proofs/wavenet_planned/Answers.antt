@@ -1,3 +1,4 @@
+-- What `calls::planned` promises is what is promised here.
 use Rattle.wavenet.proofs.wavenet_planned.Goals as goal
 
 pub returns : goal.returns

@@ -1,3 +1,4 @@
+-- `differ` is the definition's test; no product wraps, since widths are at most 32, W at most 64 and n at most 1024.
 use mathlib.Core.Path.{refl}
 use native.Mathlib.Omega.{arith}
 use Rattle.admit.specs.Lengths.{differing}

@@ -1,3 +1,4 @@
+-- `places_beyond` meets its contract. The loop's invariant: the parts before layer l are passed (Passing).
 use mathlib.Core.List.{[], ◌∷◌}
 use mathlib.Core.Path.{◌∙◌, ◌≡◌, ap, subst, sym}
 use Prim.Native.Nat.{◌<◌}

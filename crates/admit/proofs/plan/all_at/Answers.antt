@@ -1,3 +1,4 @@
+-- `all_at` meets its contract. The loop's invariant: the stages passed stand at n, so the rest decides (Turning).
 use mathlib.Core.Path.{◌∙◌, refl, sym}
 use native.Mathlib.Omega.{arith}
 use borrow.Author.Rules.{rules}

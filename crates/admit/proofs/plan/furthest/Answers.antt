@@ -1,3 +1,4 @@
+-- `furthest` is the definition's limit, by whether there is a stage before.
 use Rattle.admit.proofs.Turning.{limit-past, limit_zero}
 use Rattle.admit.proofs.plan.furthest.Goals as goal
 

@@ -1,3 +1,4 @@
+-- `keeps_rule` meets its contract: as many zeros as there are stages are lent.
 use Rattle.admit.proofs.Turning.{rule_from}
 use Rattle.admit.proofs.plan.keeps_rule.Goals as goal
 

@@ -1,3 +1,4 @@
+-- `turn` meets its contract: each test against the definition's (Turning).
 use mathlib.Core.Path.{refl}
 use native.Mathlib.Omega.{arith}
 use Rattle.turns.specs.Plan.{taken}

@@ -1,3 +1,4 @@
+-- `walk` meets its contract. The loop's invariant: the rest of the plan, from where the stages have reached, comes to what the whole plan does (Turning).
 use mathlib.Core.Path.{refl, sym}
 use Prim.Native.Nat.{◌/◌}
 use native.Mathlib.Omega.{arith}

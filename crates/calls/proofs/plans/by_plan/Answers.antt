@@ -1,3 +1,4 @@
+-- As many numbers as there are stages are lent of each array, those of `reached` zeros.
 use mathlib.Core.Path.{ap}
 use Prim.Native.Nat.{ℕ, ◌+◌, ◌≤◌}
 use native.Mathlib.Omega.{arith}

@@ -1,3 +1,4 @@
+-- The starts first, then the turns.
 use Rattle.calls.proofs.plans.from_starts.Goals as goal
 
 pub turns_in_order-requires : goal.turns_in_order-requires

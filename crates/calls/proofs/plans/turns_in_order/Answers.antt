@@ -1,3 +1,4 @@
+-- The loop keeps UnderWay and OnPlan: the stages are where the plan's turns so far took them, and the rest of the plan keeps the rule (ByPlan).
 use mathlib.Core.Path.{refl}
 use Prim.Native.Nat.{◌+◌, ◌*◌}
 use native.Mathlib.Omega.{arith}

@@ -1,3 +1,4 @@
+-- The loop keeps UnderWay: the stages before k have taken all columns, the others none (InOrder).
 use mathlib.Core.Path.{refl, sym, ◌∙◌, ap}
 use Prim.Native.Nat.{ℕ, ◌+◌}
 use native.Mathlib.Numerals.{add-one}

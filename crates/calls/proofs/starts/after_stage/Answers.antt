@@ -1,3 +1,4 @@
+-- Each of the three kinds of stage ends where Starting says.
 use mathlib.Core.Path.{◌∙◌}
 use native.Mathlib.Omega.{arith}
 use Rattle.description.proofs.Sound.{length_is, layers_of}

@@ -1,3 +1,4 @@
+-- The loop fills three lists with the starts of the stages before k.
 use mathlib.Core.Path.{◌≡◌, sym, ◌∙◌, ap}
 use Prim.Native.Nat.{ℕ, ◌+◌}
 use native.Mathlib.Numerals.{add-one}

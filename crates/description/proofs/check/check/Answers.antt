@@ -1,3 +1,5 @@
+-- `check` meets its contract. The loop's invariant: no layer passed is broken, and the tally is that of the layers passed. A broken layer answers 2 at
+-- once; the tally of all layers gives 3, 4, 5 or the sizes (Answering).
 use mathlib.Core.Path.{subst, ◌≡◌, refl, sym, ◌∙◌, ap}
 use Prim.Native.Nat.{◌≤◌}
 use native.Mathlib.Omega.{arith}

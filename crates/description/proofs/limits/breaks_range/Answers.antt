@@ -1,3 +1,4 @@
+-- `breaks_range` walks the table. The loop's invariant: the flag says whether a number passed lies outside its limits.
 use mathlib.Core.Path.{refl}
 use native.Mathlib.Omega.{arith}
 use borrow.Author.Rules.{rules}

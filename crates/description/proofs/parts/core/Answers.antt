@@ -1,3 +1,4 @@
+-- `core` picks slot k of the first four by its number, the last since k is below 4.
 use mathlib.Core.Path.{◌≡◌}
 use Rattle.description.specs.Parts.{part_of, slots_of}
 use Rattle.description.proofs.Reading.{past_zero, past_it, only}

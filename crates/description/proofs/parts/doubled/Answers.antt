@@ -1,3 +1,4 @@
+-- `doubled` is mid: what the mode makes of the bottleneck.
 use Rattle.description.specs.Parts.{mid}
 use native.Mathlib.Omega.{arith}
 use Rattle.description.proofs.parts.doubled.Goals as goal

@@ -1,3 +1,4 @@
+-- `head1x1` is absent exactly where its width is 0.
 use borrow.Author.Tests.{ne_eqb, eq-eqb}
 use Rattle.description.specs.Parts.{head1x1_of, unless0}
 use Rattle.description.proofs.parts.head1x1.Goals as goal

@@ -1,3 +1,4 @@
+-- `last_width` is the width of site 7: by whether head1x1 is there.
 use borrow.Author.Tests.{ne_eqb, eq-eqb}
 use Rattle.description.specs.Parts.{site_width}
 use Rattle.description.proofs.parts.last_width.Goals as goal

@@ -1,3 +1,4 @@
+-- `layer1x1` is absent exactly where its groups are 0.
 use borrow.Author.Tests.{ne_eqb, eq-eqb}
 use Rattle.description.specs.Parts.{layer1x1_of, unless0}
 use Rattle.description.proofs.parts.layer1x1.Goals as goal

@@ -1,3 +1,4 @@
+-- `mixin` gives the shape of the definition; its output side is what `doubled` gives.
 use Rattle.description.specs.Parts.{mixin_of}
 use Rattle.description.proofs.parts.mixin.Goals as goal
 

@@ -1,3 +1,4 @@
+-- `site` is absent exactly where its groups are 0; scales and shifts are 1 or 2 times its width (Slots).
 use mathlib.Core.Path.{sym, ◌∙◌}
 use Prim.Native.Nat.{◌^◌, ◌/◌}
 use native.Mathlib.Omega.{arith}

@@ -1,3 +1,4 @@
+-- `site_width` picks the width of site i: each arm by its number, the last since i is below 8.
 use mathlib.Core.Path.{◌≡◌}
 use Rattle.description.specs.Parts.{site_width}
 use Rattle.description.proofs.Reading.{past_zero, past_it, only}

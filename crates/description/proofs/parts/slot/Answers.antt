@@ -1,3 +1,4 @@
+-- `slot` picks slot k: one of the first four, or a site from 4 on (Slots).
 use mathlib.Core.Path.{◌∙◌}
 use native.Mathlib.Omega.{arith}
 use Rattle.description.proofs.Slots.{slot_site}

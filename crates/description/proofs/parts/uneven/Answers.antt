@@ -1,3 +1,4 @@
+-- `uneven` asks the shape of a part that is there.
 use Rattle.description.specs.Parts.{uneven_of}
 use Rattle.description.proofs.parts.uneven.Goals as goal
 

@@ -1,3 +1,4 @@
+-- `uneven_shape`: one group always divides; other groups are tried.
 use mathlib.Core.Path.{refl}
 use native.Mathlib.Nat.{mod-one}
 use Rattle.description.specs.Parts.{uneven_of}

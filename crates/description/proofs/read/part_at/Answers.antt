@@ -1,3 +1,4 @@
+-- `part_at` gives the part by its number: the first, the last, or a slot of layer (i - 1) / 12 (Sound).
 use mathlib.Core.Path.{subst, sym, ◌∙◌, ap}
 use Prim.Native.Nat.{◌-◌, ◌/◌, ◌%◌, ◌<◌}
 use native.Mathlib.Omega.{arith}

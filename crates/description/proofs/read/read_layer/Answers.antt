@@ -1,3 +1,4 @@
+-- `read_layer` answers Broken where a range or a zero rule is broken, else the record (Answering).
 use mathlib.Core.Path.{sym, ◌∙◌}
 use Rattle.description.specs.Limits.{layer_limits}
 use Rattle.description.proofs.Answering.{broken_range, broken_zeros, whole}

@@ -1,3 +1,4 @@
+-- `layer_record` reads each number at its place (Reading).
 use native.Mathlib.Omega.{arith}
 use Rattle.description.proofs.Reading.{layer_is}
 use Rattle.description.proofs.records.layer_record.Goals as goal

@@ -1,3 +1,4 @@
+-- `read_activation` goes by the code, as the definition's table does.
 use mathlib.Core.List.{[], ◌∷◌}
 use mathlib.Core.Path.{sym}
 use lib.ListN.{get_or-eq_default}

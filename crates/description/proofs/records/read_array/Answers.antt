@@ -1,3 +1,4 @@
+-- `read_array` reads each number at its place (Reading).
 use Rattle.description.proofs.Reading.{array_is}
 use Rattle.description.proofs.records.read_array.Goals as goal
 

@@ -1,3 +1,4 @@
+-- `read_sites` reads each number at its place (Reading).
 use Rattle.description.proofs.Reading.{sites_is}
 use Rattle.description.proofs.records.read_sites.Goals as goal
 

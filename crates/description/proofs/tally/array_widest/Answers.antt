@@ -1,3 +1,4 @@
+-- `array_widest` is the largest of the array's five widths.
 use native.Mathlib.Nat.{max-zero}
 use Rattle.description.specs.Sizes.{largest}
 use Rattle.description.proofs.tally.array_widest.Goals as goal

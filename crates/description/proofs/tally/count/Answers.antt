@@ -1,3 +1,4 @@
+-- `count` adds a layer's slots. The loop's invariant: place and flag are those past the first k slots (Totals).
 use mathlib.Core.Bool.{or-false}
 use mathlib.Core.Path.{sym}
 use native.Mathlib.Omega.{arith}

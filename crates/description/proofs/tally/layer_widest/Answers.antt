@@ -1,3 +1,4 @@
+-- `layer_widest` is the largest of the layer's three widths.
 use native.Mathlib.Nat.{max-zero}
 use Rattle.description.specs.Sizes.{largest}
 use Rattle.description.proofs.tally.layer_widest.Goals as goal

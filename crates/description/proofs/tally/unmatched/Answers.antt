@@ -1,3 +1,4 @@
+-- `unmatched` is the test of the definition, by whether head1x1 is there.
 use borrow.Author.Tests.{ne_eqb, eq-eqb}
 use Rattle.description.specs.Refusals.{head_width, unmatched_of}
 use Rattle.description.proofs.tally.unmatched.Goals as goal

@@ -1,3 +1,4 @@
+-- `breaks_sites` walks the sites. The loop's invariant: the flag says whether a site passed is absent with its bit set.
 use mathlib.Core.Bool.{◌&&◌}
 use mathlib.Core.Path.{refl}
 use Prim.Native.Nat.{◌+◌}

@@ -1,3 +1,4 @@
+-- `breaks_zero_rule` joins the three tests.
 use Rattle.description.specs.ZeroRules.{breaks_zero_rule}
 use Rattle.description.proofs.zeros.breaks_zero_rule.Goals as goal
 

@@ -1,3 +1,4 @@
+-- `film::Modulation::apply` meets its contract. By the two cases of the flag.
 use Rattle.film.specs.Modulated.{modulated}
 use Rattle.film.proofs.Modulation.apply.Goals as goal
 

@@ -1,3 +1,4 @@
+-- `film::Modulation::read` meets its contract. By the two cases of the flag.
 use native.Mathlib.Omega.{arith}
 use Rattle.film.specs.Modulated.{modulation_of}
 use Rattle.film.proofs.Modulation.read.Goals as goal

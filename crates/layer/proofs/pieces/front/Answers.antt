@@ -1,3 +1,4 @@
+-- Three steps, each of which asks what the one before leaves; front-is joins them. A site that is not played leaves all as it was.
 use Rattle.description.specs.Parts.{site_width}
 use Rattle.layer.specs.Pieces.{SitePast}
 use Rattle.layer.proofs.Asks.{not_played}

@@ -1,3 +1,4 @@
+-- Four steps, each of which asks what the one before leaves; gate-is joins them. A site that is not played leaves all as it was.
 use Rattle.description.specs.Parts.{mid, site_width}
 use Rattle.layer.specs.Pieces.{SitePast}
 use Rattle.layer.proofs.Asks.{not_played}

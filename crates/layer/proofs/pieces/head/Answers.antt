@@ -1,3 +1,4 @@
+-- With head1x1 three steps, joined by head-is; without it one, bare-head.
 use Rattle.layer.specs.Pieces.{SitePast}
 use Rattle.layer.proofs.Asks.{not_played}
 use Rattle.layer.proofs.Past.{site_left_out}

@@ -1,3 +1,4 @@
+-- With layer1x1 three steps, joined by residual-is; without it none, bare-residual.
 use Rattle.description.specs.Parts.{site_width}
 use Rattle.layer.specs.Pieces.{SitePast}
 use Rattle.layer.proofs.Asks.{not_played}

@@ -1,3 +1,4 @@
+-- Site 6 is left out where the mode is not Blended, and any other site is there as it is.
 use Rattle.layer.proofs.Asks.{left_out, played}
 use mathlib.Core.Path.{◌∙◌}
 use Rattle.layer.proofs.sites.applied_site.Goals as goal

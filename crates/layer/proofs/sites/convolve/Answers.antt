@@ -1,3 +1,4 @@
+-- What the slot asks and does is play's; an absent slot passes its turn.
 use Rattle.layer.proofs.Past.{conv_absent, conv-past}
 use Rattle.layer.proofs.Asks.{conv_fits}
 use mathlib.Core.Path.{sym, ◌∙◌}

@@ -1,3 +1,4 @@
+-- What the site asks and does is site_in's, at the layer's places.
 use Rattle.layer.proofs.Past.{site_past}
 use Rattle.layer.proofs.Asks.{site_fits}
 use mathlib.Core.Path.{◌∙◌}

@@ -1,3 +1,4 @@
+-- What the site asks and does is site_to's, at the layer's places.
 use Rattle.layer.proofs.Past.{site_past}
 use Rattle.layer.proofs.Asks.{site_fits, width_in}
 use mathlib.Core.Path.{◌∙◌}

@@ -1,3 +1,4 @@
+-- A site is played where it is there and applies: plays-is.
 use Rattle.layer.proofs.Asks.{plays_is}
 use Rattle.layer.proofs.sites.plays.Goals as goal
 

@@ -1,3 +1,4 @@
+-- One of the first four slots ends where the next one starts: slot_next.
 use Rattle.description.proofs.Slots.{slot_fits}
 use Rattle.layer.proofs.Places.{slot_low, slot_next, low_more}
 use mathlib.Core.Path.{◌∙◌}

@@ -1,3 +1,4 @@
+-- An absent site takes no place; one that is there ends where the next slot starts: slot_next.
 use Rattle.description.proofs.Slots.{slot_fits}
 use Rattle.layer.proofs.Places.{slot_low, slot_next, low_more}
 use Rattle.layer.proofs.Asks.{no_site, past-none}

@@ -1,3 +1,4 @@
+-- Each place comes from the one before; slots-of gathers them.
 use Rattle.layer.proofs.Places.{slot_first, slots_are, slots_end}
 use mathlib.Core.Path.{refl, sym}
 use native.Mathlib.Omega.{arith}

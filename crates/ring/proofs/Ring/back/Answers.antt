@@ -1,3 +1,4 @@
+-- `ring::Ring::back` meets its contract. Within the places passed so far, or round the ring.
 use mathlib.Core.Path.{sym}
 use Rattle.ring.proofs.Places.{back_in, back_round}
 use Rattle.ring.proofs.Ring.back.Goals as goal

@@ -1,3 +1,4 @@
+-- `ring::Ring::next` meets its contract. The place moves on by one; past the last place it is zero.
 use Rattle.ring.proofs.Places.{next_on, next_zero}
 use Rattle.ring.proofs.Ring.next.Goals as goal
 

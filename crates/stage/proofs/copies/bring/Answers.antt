@@ -1,3 +1,4 @@
+-- Three copies, one after the other: Copying says what they come to.
 use Rattle.stage.proofs.Copying.{brought}
 use Rattle.stage.proofs.copies.bring.Goals as goal
 

@@ -1,3 +1,4 @@
+-- Two copies, one after the other: Copying says what they come to.
 use Rattle.stage.proofs.Copying.{handed_on}
 use Rattle.stage.proofs.copies.hand_on.Goals as goal
 

@@ -1,3 +1,4 @@
+-- Copies and one convolution; each asks what Widths gives, and Exit joins them into a turn of the last stage.
 use mathlib.Core.Path.{sym, ◌∙◌}
 use native.Mathlib.Omega.{arith}
 use Rattle.description.proofs.Sound.{length_is}

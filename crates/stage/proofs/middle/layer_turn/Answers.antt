@@ -1,3 +1,4 @@
+-- Copies in, a layer, copies back; Fitting gives each what it asks, and joins them into a turn of a layer.
 use mathlib.Core.Path.{refl, sym, ◌∙◌, ap}
 use Prim.Native.Nat.{◌*◌}
 use native.Mathlib.Omega.{arith}

@@ -1,3 +1,4 @@
+-- `sums::eight::add_each` meets its contract. After j inputs each lane has the sum of j products, by `lanes-more`.
 use mathlib.Core.Path.{◌≡◌, ◌∙◌, ap}
 use Prim.Native.Nat.{ℕ, ◌+◌, ◌*◌}
 use native.Mathlib.Omega.{arith}

@@ -1,3 +1,4 @@
+-- `sums::eight::add_outputs` meets its contract. The way of kernel 1 is taken where the step is 1.
 use Rattle.sums.proofs.eight.add_outputs.Goals as goal
 
 pub add_next-requires : goal.add_next-requires

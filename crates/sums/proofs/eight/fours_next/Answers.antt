@@ -1,3 +1,4 @@
+-- `sums::eight::fours_next` meets its contract. After q fours each lane has the sum of 4 q products, by `lanes-join`.
 use mathlib.Core.Path.{◌≡◌, ◌∙◌, ap}
 use Prim.Native.Nat.{ℕ, ◌+◌, ◌*◌}
 use native.Mathlib.Omega.{arith}

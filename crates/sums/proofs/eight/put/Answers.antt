@@ -1,3 +1,4 @@
+-- `sums::eight::put` meets its contract. Eight a stride of 1 apart are next to each other.
 use native.Mathlib.Omega.{arith}
 use Rattle.sums.proofs.eight.put.Goals as goal
 

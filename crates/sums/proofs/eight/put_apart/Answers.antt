@@ -1,3 +1,4 @@
+-- `sums::eight::put_apart` meets its contract. One store more is one row of one place more.
 use mathlib.Core.Path.{◌≡◌, refl}
 use native.Mathlib.Omega.{arith}
 use borrow.Author.Rules.{rules}

@@ -1,3 +1,4 @@
+-- `sums::few::add_output` meets its contract. After j inputs the sum has j products.
 use mathlib.Core.Path.{◌≡◌, sym}
 use native.Mathlib.Omega.{arith}
 use borrow.Author.Rules.{rules}

@@ -1,3 +1,4 @@
+-- `sums::few::put_half` meets its contract. Four a stride of 1 apart are next to each other.
 use native.Mathlib.Omega.{arith}
 use Rattle.sums.proofs.few.put_half.Goals as goal
 

@@ -1,3 +1,4 @@
+-- `sums::few::put_half_next` meets its contract. The others by `others-turn`, then the first by `first-last`.
 use mathlib.Core.Path.{◌≡◌, refl, sym}
 use Prim.Native.Nat.{◌+◌, ◌-◌}
 use native.Mathlib.Omega.{arith}

@@ -1,3 +1,4 @@
+-- `sums::row::add_input` meets its contract. Each lane is stored once, out of what it held; filled whole, that is a table.
 use mathlib.Core.Path.{◌≡◌, sym, ◌∙◌}
 use native.Mathlib.Omega.{arith}
 use lib.Ieee.{nan}

@@ -1,3 +1,4 @@
+-- `sums::row::add_inputs` meets its contract. After j inputs each lane has the sum of j products, by `lanes-more`.
 use mathlib.Core.Path.{◌≡◌, ◌∙◌, ap}
 use native.Mathlib.Omega.{arith}
 use lib.ListN.{length}

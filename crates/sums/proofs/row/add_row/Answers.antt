@@ -1,3 +1,4 @@
+-- `sums::row::add_row` meets its contract. Sixteen columns a turn: read, summed and written back, by `row-turn`.
 use mathlib.Core.Path.{◌≡◌, sym}
 use Prim.Native.Nat.{◌*◌}
 use native.Mathlib.Omega.{arith}

@@ -1,3 +1,4 @@
+-- `sums::row::load` meets its contract. Filled place by place, a list of sixteen is the table of its rule.
 use mathlib.Core.Path.{◌≡◌, refl, sym, ◌∙◌}
 use native.Mathlib.Omega.{arith}
 use lib.Ieee.{nan}

@@ -1,3 +1,4 @@
+-- `sums::row::save` meets its contract. One store more fills one place more.
 use mathlib.Core.Path.{◌≡◌, refl, sym}
 use native.Mathlib.Omega.{arith}
 use borrow.Author.Rules.{rules}

@@ -1,3 +1,4 @@
+-- `spread_row` meets its contract. The loop's invariant: the columns passed hold their numbers.
 use mathlib.Core.Path.{◌≡◌, refl, sym}
 use native.Mathlib.Omega.{arith}
 use borrow.Author.Rules.{rules}

@@ -1,3 +1,4 @@
+-- `float` meets its contract. The bits are the word's.
 use mathlib.Core.Path.{◌∙◌, ap}
 use Prim.Native.Nat.{ℕ}
 use lib.Ieee.{of_bits, binary32}

@@ -1,3 +1,4 @@
+-- `unpack_floats` meets its contract. The loop's invariant: the places passed hold their floats.
 use mathlib.Core.Path.{sym}
 use native.Mathlib.Omega.{arith}
 use lib.Ieee.{nan}

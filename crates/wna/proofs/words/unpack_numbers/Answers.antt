@@ -1,3 +1,4 @@
+-- `unpack_numbers` meets its contract. The loop's invariant: the places passed hold their words.
 use mathlib.Core.Path.{sym}
 use native.Mathlib.Omega.{arith}
 use borrow.Author.Rules.{rules}

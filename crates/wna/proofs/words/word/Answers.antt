@@ -1,3 +1,4 @@
+-- `word` meets its contract. Two halves.
 use native.Mathlib.Omega.{arith}
 use Rattle.wna.specs.Words.{word_at}
 use Rattle.wna.proofs.words.word.Goals as goal

@@ -1,3 +1,4 @@
+-- `layer` passes a layer's slots. The loop's invariant: the first k of them are passed (Passing).
 use mathlib.Core.Path.{ap, subst, sym}
 use native.Mathlib.Omega.{arith}
 use borrow.Author.Rules.{rules}

@@ -1,3 +1,4 @@
+-- `part` passes one part: a position that is there against its ring's length.
 use mathlib.Core.List.{[], ◌∷◌}
 use mathlib.Core.Path.{◌∙◌, ◌≡◌, ap, sym}
 use native.Mathlib.Omega.{arith}

@@ -1,3 +1,4 @@
+-- `number` gives the number of each case: the match tells the case.
 use Rattle.description.specs.Answers.{number_of}
 use Rattle.description.proofs.answers.Checked.number.Goals as goal
 

@@ -1,3 +1,4 @@
+-- `past` adds a part's counts; none wraps, since the place is low and the part in range.
 use native.Mathlib.Nat.{add-zero}
 use native.Mathlib.Omega.{arith}
 use Rattle.description.specs.Sizes.{histories_of, past_of, positions_of, weights_of}

@@ -1,3 +1,4 @@
+-- `answer` tells 3, 4, 5 or the sizes, with the head rechannel as the last part.
 use mathlib.Core.Path.{◌∙◌, ap}
 use native.Mathlib.Omega.{arith}
 use Rattle.description.specs.Tally.{answer_at, answer_of}

@@ -1,3 +1,4 @@
+-- `start` is the tally before any layer: the rechannel is its one part.
 use mathlib.Core.Path.{◌∙◌}
 use Rattle.description.specs.Parts.{rechannel_of}
 use Rattle.description.proofs.Passing.{origin_low, past_origin, start_is}

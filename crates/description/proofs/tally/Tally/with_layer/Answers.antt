@@ -1,3 +1,4 @@
+-- `with_layer` adds a layer; no sum wraps, since the tally is low and the layer in range.
 use native.Mathlib.Omega.{arith}
 use Rattle.description.proofs.Passing.{layer_in, reach_le}
 use Rattle.description.proofs.tally.Tally.with_layer.Goals as goal

@@ -1,3 +1,4 @@
+-- Each arm gives the place that its number names.
 use Rattle.description.proofs.Reading.{past_zero, past_it, only}
 use Rattle.layer.specs.Slots.{place_in}
 use mathlib.Core.Path.{◌≡◌}
