@@ -1,5 +1,6 @@
 #!/usr/bin/env python3
 """Writes docs/exp-tanh.md and docs/figures/exp-tanh.svg from what tools/measure printed over every pattern."""
+import subprocess
 import sys
 
 BINS, W, H, PAD = 40, 300, 150, 34
@@ -36,7 +37,7 @@ def main():
     with open("docs/exp-tanh.md", "w") as f:
         f.write("# exp and tanh, measured on every float\n\n")
         f.write("The proved code, linked from its static library, on all 2^32 bit patterns against double, and MPFR with 200 digits wherever the float\n")
-        f.write("nearest to that is in doubt. `bash tools/measure/run.sh 1` makes this page and the figure.\n\n")
+        f.write("nearest to that is in doubt. `bash tools/measure/run.sh 1` makes this page and the figure. Measured with %s.\n\n" % subprocess.check_output(["rt", "version"], text=True).split()[0])
         f.write("| floats between the result and the correctly rounded value | 0 | 1 | 2 | more | largest true error, in float spacings | stated facts broken |\n|---|---|---|---|---|---|---|\n")
         for n in ("exp", "tanh"):
             t = r[n]
