@@ -1,7 +1,7 @@
 #!/usr/bin/env python3
 """How the rows of Tanh were made (crate tangent): for each stretch of 2^21 patterns from 2^-13 to 10 the quintic through tanh at the six Chebyshev
 points of the stretch, its numbers rounded to whole ones. Needs mpmath. Prints the rows; with --write it rewrites the lists in
-crates/tangent/src/rows.rt and crates/tangent/specs/Rows.antt. Nothing rests on this script: what is proved of Tanh is proved of the rows as
+crates/tangent/src/rows.rt and crates/tangent/specs/Rows.antt, which `rt fmt` there lays out. Nothing rests on this script: what is proved of Tanh is proved of the rows as
 they stand, and the distance from tanh is measured on every pattern (tools/measure)."""
 import os
 import sys
@@ -42,7 +42,7 @@ def main():
         f.write("".join("    %d,\n" % c for r in rows for c in r) + "];\n")
     with open(os.path.join(here, "specs", "Rows.antt"), "w") as f:
         f.write("-- The rows of Tanh, six whole numbers each, one row for each stretch of 2^21 patterns from 2^-13 to 10. tools/tanh_rows.py made them.\n")
-        f.write("use mathlib.Core.List.{List, [], _∷_}\nuse lib.IntN.{ℤ, pos, negsuc}\n\n")
+        f.write("use Rattle.std.specs.Prelude.{List, [], ◌∷◌, ℤ, pos, negsuc}\n\n")
         f.write("unfoldable pub rows : List ℤ\nrows =\n")
         for r in rows:
             f.write("    " + " ∷ ".join("pos %d" % c if c >= 0 else "negsuc %d" % (-c - 1) for c in r) + " ∷\n")
