@@ -1,8 +1,8 @@
 #!/usr/bin/env python3
 """How the rows of Tanh were made (crate tangent): for each stretch of 2^21 patterns from 2^-13 to 10 the quintic through tanh at the six Chebyshev
 points of the stretch, its numbers rounded to whole ones. Needs mpmath. Prints the rows; with --write it rewrites the lists in
-crates/tangent/src/rows.rt and crates/tangent/specs/Rows.antt, which `rt fmt` there lays out. Nothing rests on this script: what is proved of Tanh is proved of the rows as
-they stand, and the distance from tanh is measured on every pattern (tools/measure)."""
+crates/tangent/src/rows.rt and crates/tangent/specs/Rows.antt, which `rt fmt` there lays out. Nothing rests on this script: what is proved of Tanh
+is proved of the rows as they stand, and the distance from tanh is measured on every pattern (tools/measure)."""
 import os
 import sys
 from mpmath import mp, mpf, tanh, cos, pi, nint, matrix, lu_solve
