@@ -1,6 +1,8 @@
 // The program: plays standard input and prints. Its stdin in the gate is document 01's case A. Document 01, 'The program'.
-use libc::STDIN_FILENO;
+#![tactic(auto)]
 
-fn main() {
-    player::play(STDIN_FILENO);
+use std::io;
+
+fn main(rt: HostRuntime) -> io::Result<()> {
+    player::play(&mut rt.stdin(), &mut rt.stdout())
 }

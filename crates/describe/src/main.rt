@@ -1,10 +1,14 @@
 // Prints the answers of `sizes` and of `reset` on each case of its input. A case is whole numbers of 32 bits, little-endian: how many numbers the
 // description has, how many the histories and the positions that are lent to reset, and the description. tools/describe_cases.py writes the cases
 // and, by an independent check, what has to be printed.
+#![tactic(auto)]
+
 ghost use Rattle.std.specs.Prelude.{◌≡◌, ◌+◌, ◌*◌, ◌<◌, ◌≤◌, length};
 
 use description::answers::{Checked, Sizes};
-use libc::{STDIN_FILENO, STDOUT_FILENO};
+use reading::read_full;
+use std::io;
+use std::io::{Read, Write};
 
 // The number that starts at place `at`.
 fn word(bytes: &[u8], at: usize) -> usize
@@ -26,23 +30,23 @@ fn unpack(numbers: &mut [u32], bytes: &[u8])
     }
 }
 
-fn print(text: &[u8], n: usize) {
-    io::write_all(STDOUT_FILENO, text);
-    io::print_decimal(STDOUT_FILENO, n as u64);
+fn print<W: Write>(writer: &mut W, text: &[u8], n: usize) -> io::Result<()> {
+    writer.write_all(text)?;
+    write!(writer, "{n}")
 }
 
-fn print_sizes(s: Sizes) {
-    print(b"sizes ", s.weights);
-    print(b" ", s.histories);
-    print(b" ", s.positions);
-    print(b" ", s.widest);
-    print(b" ", s.depth);
+fn print_sizes<W: Write>(writer: &mut W, s: Sizes) -> io::Result<()> {
+    print(writer, b"sizes ", s.weights)?;
+    print(writer, b" ", s.histories)?;
+    print(writer, b" ", s.positions)?;
+    print(writer, b" ", s.widest)?;
+    print(writer, b" ", s.depth)
 }
 
-fn print_answer(d: &[u32]) {
+fn print_answer<W: Write>(writer: &mut W, d: &[u32]) -> io::Result<()> {
     match description::sizes(d) {
-        Checked::Refused(n) => print(b"refused ", n as usize),
-        Checked::Sound(s) => print_sizes(s),
+        Checked::Refused(n) => print(writer, b"refused ", n as usize),
+        Checked::Sound(s) => print_sizes(writer, s),
     }
 }
 
@@ -58,67 +62,85 @@ fn sounding(histories: &[f32]) -> usize {
     count
 }
 
-fn print_positions(positions: &[u32]) {
+fn print_positions<W: Write>(writer: &mut W, positions: &[u32]) -> io::Result<()> {
     let n = positions.len();
     for i in 0..n {
-        print(b" ", positions[i] as usize);
+        print(writer, b" ", positions[i] as usize)?;
     }
+    Ok(())
 }
 
-fn print_reset(d: &[u32], histories: &mut [f32], positions: &mut [u32]) {
+fn print_reset<W: Write>(
+    writer: &mut W,
+    d: &[u32],
+    histories: &mut [f32],
+    positions: &mut [u32],
+) -> io::Result<()> {
     let r = reset::reset(d, histories, positions);
-    print(b"; reset ", r as usize);
-    print(b", sounding ", sounding(histories));
-    print(b", positions ", positions.len());
-    print_positions(positions);
-    io::write_all(STDOUT_FILENO, b"\n");
+    print(writer, b"; reset ", r as usize)?;
+    print(writer, b", sounding ", sounding(histories))?;
+    print(writer, b", positions ", positions.len())?;
+    print_positions(writer, positions)?;
+    writer.write_all(b"\n")
 }
 
 // One case: its numbers are read as bytes first.
-fn answer(numbers: &mut [u32], bytes: &mut [u8], histories: &mut [f32], positions: &mut [u32])
+fn answer<R: Read, W: Write>(
+    reader: &mut R,
+    writer: &mut W,
+    numbers: &mut [u32],
+    bytes: &mut [u8],
+    histories: &mut [f32],
+    positions: &mut [u32],
+) -> io::Result<()>
     requires { length bytes.old ≡ 4 * length numbers.old }
 {
-    io::read_full(STDIN_FILENO, bytes);
+    read_full(reader, bytes)?;
     unpack(numbers, bytes);
-    print_answer(numbers);
-    print_reset(numbers, histories, positions);
+    print_answer(writer, numbers)?;
+    print_reset(writer, numbers, histories, positions)
 }
 
 // Lends a case buffers of its lengths, the reset's holding 1 and 9; whether there was a case.
-fn one() -> bool {
+fn one<R: Read, W: Write>(reader: &mut R, writer: &mut W) -> io::Result<bool> {
     let mut head = [0u8; 12];
     let mut bytes = [0u8; 2560];
     let mut numbers = [0u32; 640];
     let mut histories = [1.0f32; 4096];
     let mut positions = [9u32; 512];
-    if io::read_full(STDIN_FILENO, &mut head) != 12 {
-        return false;
+    if read_full(reader, &mut head)? != 12 {
+        return Ok(false);
     }
     let count = word(&head, 0);
     let h = word(&head, 4);
     let p = word(&head, 8);
     if count > 640 {
-        return false;
+        return Ok(false);
     }
     if h > 4096 {
-        return false;
+        return Ok(false);
     }
     if p > 512 {
-        return false;
+        return Ok(false);
     }
     let size = 4 * count;
     answer(
+        reader,
+        writer,
         &mut numbers[..count],
         &mut bytes[..size],
         &mut histories[..h],
         &mut positions[..p],
-    );
-    true
+    )?;
+    Ok(true)
 }
 
-fn main() {
+fn main(rt: HostRuntime) -> io::Result<()> {
+    let mut reader = rt.stdin();
+    let mut writer = rt.stdout();
     let mut turns: usize = 1000000;
-    while turns > 0 && one() {
+    while turns > 0 && one(&mut reader, &mut writer)? {
         turns -= 1;
     }
+    Ok(())
 }

@@ -58,3 +58,9 @@ module _ (d : List ℕ) (w : List Float) where
     pub heard : Heard played histories positions
     pub most : played ≤ columns
     pub all : number ≡ 0 → played ≡ columns
+
+  -- of so many columns after the first ones, only some are played
+  pub record Partly (first columns : ℕ) (histories : List Float) (positions : List ℕ) : Type 0 where
+    pub played : ℕ
+    pub most : played ≤ columns
+    pub heard : Heard (first + played) histories positions

@@ -1,6 +1,8 @@
-// Plays a file of the program's format from a descriptor, and prints as it goes. No contract can say which bytes are read or written. What is refused and
-// how much is played is told by wna; that a block's text is the recurrence's from the reset on is told by the contracts of `turn` and `stream`
+// Plays a file of the program's format from a reader, and prints to a writer as it goes. No contract here says which bytes are read or written. What is
+// refused and how much is played is told by wna; that a block's text is the recurrence's from the reset on is told by the contracts of `turn` and `stream`
 // (specs/Plays.antt), and specs/Whole.antt puts all of it together. Document 01, 'The program'.
+#![tactic(auto)]
+
 pub mod stream;
 pub mod turn;
 
@@ -11,19 +13,23 @@ ghost use Rattle.wna.specs.Opening.{Opened};
 use crate::stream::{last, stream};
 use description::answers::{Checked, Sizes};
 use description::records::read_array;
+use reading::read_full;
+use std::io;
+use std::io::{Read, Write};
 use wna::header::{Header, HeaderAnswer, read_header};
 use wna::opening::{take_description, take_weights};
 
 // From a reset: all columns, and the last line. The reset's own answer is 0: the buffers have the description's sizes.
-fn from_reset(
-    fd: i32,
+fn from_reset<R: Read, W: Write>(
+    reader: &mut R,
+    writer: &mut W,
     h: Header,
     s: Sizes,
     d: &[u32],
     weights: &[f32],
     histories: &mut [f32],
     positions: &mut [u32],
-)
+) -> io::Result<()>
     requires low_header { LowHeader h }
     requires opened { Opened d.now s h.block }
     requires weights_len { length weights.now ≡ s.weights }
@@ -35,7 +41,8 @@ fn from_reset(
     let columns = h.columns as usize;
     reset::reset(d, histories, positions);
     let number = stream(
-        fd,
+        reader,
+        writer,
         block,
         columns,
         d,
@@ -45,12 +52,19 @@ fn from_reset(
         positions,
         &mut scratch,
         &mut text,
-    );
-    last(number, columns);
+    )?;
+    last(writer, number, columns)
 }
 
 // Lends histories and positions of the description's sizes.
-fn with_weights(fd: i32, h: Header, s: Sizes, d: &[u32], weights: &[f32])
+fn with_weights<R: Read, W: Write>(
+    reader: &mut R,
+    writer: &mut W,
+    h: Header,
+    s: Sizes,
+    d: &[u32],
+    weights: &[f32],
+) -> io::Result<()>
     requires low_header { LowHeader h }
     requires opened { Opened d.now s h.block }
     requires weights_len { length weights.now ≡ s.weights }
@@ -60,32 +74,46 @@ fn with_weights(fd: i32, h: Header, s: Sizes, d: &[u32], weights: &[f32])
     let held = s.histories;
     let parts = s.positions;
     from_reset(
-        fd,
+        reader,
+        writer,
         h,
         s,
         d,
         weights,
         &mut histories[..held],
         &mut positions[..parts],
-    );
+    )
 }
 
 // The weights, from the bytes that were read.
-fn weighed(fd: i32, h: Header, s: Sizes, d: &[u32], weights: &mut [f32], bytes: &[u8])
+fn weighed<R: Read, W: Write>(
+    reader: &mut R,
+    writer: &mut W,
+    h: Header,
+    s: Sizes,
+    d: &[u32],
+    weights: &mut [f32],
+    bytes: &[u8],
+) -> io::Result<()>
     requires low_header { LowHeader h }
     requires opened { Opened d.now s h.block }
     requires weights_len { length weights.old ≡ s.weights }
 {
     let number = take_weights(weights, bytes);
     if number != 0 {
-        last(number, 0);
-        return;
+        return last(writer, number, 0);
     }
-    with_weights(fd, h, s, d, weights);
+    with_weights(reader, writer, h, s, d, weights)
 }
 
 // Reads the weights.
-fn with_description(fd: i32, h: Header, s: Sizes, d: &[u32])
+fn with_description<R: Read, W: Write>(
+    reader: &mut R,
+    writer: &mut W,
+    h: Header,
+    s: Sizes,
+    d: &[u32],
+) -> io::Result<()>
     requires low_header { LowHeader h }
     requires opened { Opened d.now s h.block }
 {
@@ -93,39 +121,52 @@ fn with_description(fd: i32, h: Header, s: Sizes, d: &[u32])
     let mut bytes = [0u8; 65536];
     let count = s.weights;
     let size = 4 * count;
-    let got = io::read_full(fd, &mut bytes[..size]);
-    weighed(fd, h, s, d, &mut weights[..count], &bytes[..got]);
+    let got = read_full(reader, &mut bytes[..size])?;
+    weighed(
+        reader,
+        writer,
+        h,
+        s,
+        d,
+        &mut weights[..count],
+        &bytes[..got],
+    )
 }
 
 // The description, from the bytes that were read.
-fn described(fd: i32, h: Header, numbers: &mut [u32], bytes: &[u8])
+fn described<R: Read, W: Write>(
+    reader: &mut R,
+    writer: &mut W,
+    h: Header,
+    numbers: &mut [u32],
+    bytes: &[u8],
+) -> io::Result<()>
     requires { LowHeader h }
 {
     let checked = take_description(numbers, bytes, h.block);
     let Checked::Sound(s) = checked else {
-        last(checked.number(), 0);
-        return;
+        return last(writer, checked.number(), 0);
     };
-    with_description(fd, h, s, numbers);
+    with_description(reader, writer, h, s, numbers)
 }
 
 // Reads the description.
-fn with_header(fd: i32, h: Header)
+fn with_header<R: Read, W: Write>(reader: &mut R, writer: &mut W, h: Header) -> io::Result<()>
     requires { LowHeader h }
 {
     let mut numbers = [0u32; 584];
     let mut bytes = [0u8; 2336];
     let count = h.count;
     let size = 4 * count;
-    let got = io::read_full(fd, &mut bytes[..size]);
-    described(fd, h, &mut numbers[..count], &bytes[..got]);
+    let got = read_full(reader, &mut bytes[..size])?;
+    described(reader, writer, h, &mut numbers[..count], &bytes[..got])
 }
 
-pub fn play(fd: i32) {
+pub fn play<R: Read, W: Write>(reader: &mut R, writer: &mut W) -> io::Result<()> {
     let mut bytes = [0u8; 15];
-    let got = io::read_full(fd, &mut bytes);
+    let got = read_full(reader, &mut bytes)?;
     match read_header(&bytes[..got]) {
-        HeaderAnswer::Refused(number) => last(number, 0),
-        HeaderAnswer::Whole(h) => with_header(fd, h),
+        HeaderAnswer::Refused(number) => last(writer, number, 0),
+        HeaderAnswer::Whole(h) => with_header(reader, writer, h),
     }
 }

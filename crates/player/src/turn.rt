@@ -1,13 +1,15 @@
 // One turn: the next block's columns are read, played and printed. Document 01, 'The program'.
-ghost use Rattle.std.specs.Prelude.{◌≡◌, ◌+◌, ◌*◌, ◌≤◌, length};
+ghost use Rattle.std.specs.Prelude.{◌≡◌, ◌+◌, ◌*◌, ◌≤◌, length, IfOk, OnErr};
 ghost use Rattle.wna.specs.File.{width_of};
 ghost use Rattle.wna.specs.Columns.{spread_of};
 ghost use Rattle.player.specs.Fits.{Fits, Ready};
-ghost use Rattle.player.specs.Plays.{Heard, Plays};
+ghost use Rattle.player.specs.Plays.{Heard, Partly, Plays};
 
 use description::records::ArrayRecord;
-use libc::STDOUT_FILENO;
 use lines::put_lines;
+use reading::read_full;
+use std::io;
+use std::io::{Read, Write};
 use wna::columns::spread;
 use wna::stream::whole_columns;
 
@@ -72,7 +74,8 @@ fn play_columns(
 }
 
 // The columns of the bytes, played and printed. Lends planar buffers of the right lengths.
-fn print_columns(
+fn print_columns<W: Write>(
+    writer: &mut W,
     d: &[u32],
     a: ArrayRecord,
     weights: &[f32],
@@ -83,7 +86,7 @@ fn print_columns(
     text: &mut [u8],
     first: usize,
     n: usize,
-)
+) -> io::Result<()>
     requires ready { Ready d.now a n first weights.now histories.old positions.old scratch.old text.old }
     requires a_in_bounds { 4 * (n * width_of a) ≤ length bytes.now }
     ensures { Heard d.now weights.now (first + n) histories.new positions.new }
@@ -115,12 +118,13 @@ fn print_columns(
         first,
         n,
     );
-    io::write_all(STDOUT_FILENO, &text[..size]);
+    writer.write_all(&text[..size])
 }
 
 // Reads the next block's n columns; plays and prints those that are whole, and answers how many they are.
-pub fn turn(
-    fd: i32,
+pub fn turn<R: Read, W: Write>(
+    reader: &mut R,
+    writer: &mut W,
     d: &[u32],
     a: ArrayRecord,
     weights: &[f32],
@@ -130,17 +134,19 @@ pub fn turn(
     text: &mut [u8],
     first: usize,
     n: usize,
-) -> usize
+) -> io::Result<usize>
     requires { Ready d.now a n first weights.now histories.old positions.old scratch.old text.old }
-    ensures { (result ≤ n) × Heard d.now weights.now (first + result) histories.new positions.new }
+    ensures heard { IfOk result (λ whole. (whole ≤ n) × Heard d.now weights.now (first + whole) histories.new positions.new) }
+    ensures err { OnErr result (Partly d.now weights.now first n histories.new positions.new) }
 {
     let mut bytes = [0u8; 12288];
     let width = a.input + a.condition + a.head_in;
     let size = 4 * (n * width);
-    let got = io::read_full(fd, &mut bytes[..size]);
+    let got = read_full(reader, &mut bytes[..size])?;
     let whole = whole_columns(got, width);
     if 0 < whole {
         print_columns(
+            writer,
             d,
             a,
             weights,
@@ -151,7 +157,7 @@ pub fn turn(
             text,
             first,
             whole,
-        );
+        )?;
     }
-    whole
+    Ok(whole)
 }
