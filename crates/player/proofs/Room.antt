@@ -12,7 +12,8 @@ use Rattle.lists.proofs.Nums.{div_lt, row_next}
 use Rattle.wna.specs.File.{width_of}
 use Rattle.wna.specs.Stream.{next_block, whole_in}
 use Rattle.player.specs.Fits.{Fits, Ready, Suits, Wide}
-use Rattle.player.specs.Plays.{Heard}
+use Rattle.std.specs.Prelude.{OnErr, Ok, Err, Result}
+use Rattle.player.specs.Plays.{Heard, Partly}
 
 -- a block's text
 pub text_room : (a : ArrayRecord) (n l : ℕ) → Fits a n → n ≤ 1024 → 29696 ≤ l → n * (9 * (a.head_size + a.channels) + 11) ≤ l
@@ -76,3 +77,17 @@ pub record Next (block left n : ℕ) : Type 0 where
 pub next_is : (block left : ℕ) {n : ℕ} → n ≡ next_block block left → 1 ≤ block → 1 ≤ left → Next block left n
 unfolding next_block
 next_is block left e hb hl = record { within = omega arith; there = omega arith; some = omega arith }
+
+-- a fact stands on an error too
+pub on_err : {T E P : Type 0} (r : Result T E) → P → OnErr r P
+on_err (Ok x) p = tt
+on_err (Err e) p = p
+
+-- some of the columns from the first on, and of all columns
+pub partly : {d : List ℕ} {w histories : List Float} {positions : List ℕ} {first n : ℕ} (played : ℕ)
+    → played ≤ n → Heard d w (first + played) histories positions → Partly d w first n histories positions
+partly played most heard = record { played = played; most = most; heard = heard }
+
+pub partly_of : {d : List ℕ} {w histories : List Float} {positions : List ℕ} {first n columns : ℕ}
+    → Partly d w first n histories positions → first + n ≤ columns → Partly d w 0 columns histories positions
+partly_of {first = first} p le = partly (first + p.played) (omega (arith, p.most)) (heard_at p.heard (omega arith))
