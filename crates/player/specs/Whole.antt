@@ -1,4 +1,4 @@
--- All that the program prints for a file, as one function of its bytes. Document 01, 'The program'. No contract can say which bytes are read or written, so
+-- All that the program prints for a file, as one function of its bytes. Document 01, 'The program'. No contract here says which bytes are read or written, so
 -- no function here promises it: the parts that they promise are joined in proofs/Joined.antt, and case A is computed from it in proofs/Cases.antt.
 use Rattle.std.specs.Prelude.{cond, List, [], ◌++◌, ℕ, ◌+◌, ◌*◌, eqb, Float, drop}
 use Rattle.description.specs.Sizes.{sizes_of}
