@@ -1,10 +1,10 @@
 -- The bytes of columns, cut between columns: a block's bytes hold the next columns of the whole stream. Assumes nothing.
-use mathlib.Core.Path.{◌≡◌, refl, sym, ◌∙◌, ap}
+use mathlib.Core.Path.{◌≡◌, sym, ◌∙◌, ap}
 use mathlib.Core.List.{List, ◌++◌}
 use Prim.Native.Nat.{ℕ, ◌+◌, ◌*◌, ◌≤◌, ◌<◌}
 use native.Mathlib.Omega.{arith}
-use lib.Ieee.{Float, nan}
-use lib.ListN.{drop, get_or, take}
+use lib.Ieee.{nan}
+use lib.ListN.{drop, take}
 use lib.Seq.{get_or-drop, get_or-take}
 use Rattle.lists.specs.Tab.{tab}
 use Rattle.lists.proofs.Nums.{row_end}

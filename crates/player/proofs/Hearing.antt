@@ -1,11 +1,9 @@
 -- Histories and positions after columns from a reset: a reset makes them so, and a block that is played keeps them so. Assumes nothing.
 use mathlib.Core.Path.{◌≡◌, refl, sym, ◌∙◌, ap}
-use mathlib.Core.Bool.{Bool, cond}
 use mathlib.Core.List.{List, [], ◌∷◌, ◌++◌}
 use Prim.Native.Nat.{ℕ, ◌+◌, ◌<◌}
 use native.Mathlib.Nat.{zero-add}
 use native.Mathlib.Omega.{arith}
-use lib.Dec.{eqb}
 use lib.Ieee.{Float, binary32, of_bits}
 use lib.ListN.{get_or, length, length-append, length-replicate}
 use borrow.Author.Tests.{eq-eqb}
@@ -14,8 +12,8 @@ use Rattle.lists.proofs.Tab.{at-tab, length-tab}
 use Rattle.ring.specs.Memory.{Memory}
 use Rattle.shape.specs.Counts.{history_count, ring_length}
 use Rattle.shape.specs.declared.Shape.{Shape}
-use Rattle.turns.specs.Grid.{columns_after, states_after}
-use Rattle.turns.proofs.Numbered.{columns_join, states_join}
+use Rattle.turns.specs.Grid.{states_after}
+use Rattle.turns.proofs.Numbered.{states_join}
 use Rattle.description.specs.Parts.{parts_of}
 use Rattle.description.specs.Refusals.{refusal_of}
 use Rattle.description.specs.Sizes.{histories_of, place_at, positions_of, sizes_of, total}

@@ -21,7 +21,7 @@ use Rattle.array.specs.Memories.{memories_of}
 use Rattle.array.specs.Calls.{no_column}
 use Rattle.demands.specs.Silence.{silence}
 use Rattle.demands.proofs.Below.{columns_length}
-use Rattle.lines.specs.Text.{last_of, line_of, lines_of}
+use Rattle.lines.specs.Text.{last_of, lines_of}
 use Rattle.wna.specs.File.{file_played, file_refusal, width_of}
 use Rattle.wna.specs.Header.{columns_of}
 use Rattle.wna.specs.Opening.{description_of, opening_refusal, weights_at}

@@ -1,37 +1,31 @@
 -- A block of the program: it is not refused, and what is printed are the recurrence's columns for the bytes that were read. Assumes nothing.
 use mathlib.Core.Path.{◌≡◌, refl, sym, ◌∙◌, ap}
 use mathlib.Core.List.{List, ◌++◌}
-use Prim.Native.Nat.{ℕ, zero, suc, ◌+◌, ◌*◌, ◌≤◌, ◌<◌}
+use Prim.Native.Nat.{ℕ, zero, suc, ◌+◌, ◌*◌, ◌<◌}
 use native.Mathlib.Nat.{zero-add}
 use native.Mathlib.Omega.{arith}
 use lib.Ieee.{Float, nan}
 use lib.ListN.{get_or, length}
 use borrow.Author.Tests.{eq-eqb}
-use Rattle.lists.specs.Tab.{at, tab}
+use Rattle.lists.specs.Tab.{tab}
 use Rattle.lists.proofs.Tab.{at-tab, length-tab, tab_ext}
 use Rattle.description.specs.Records.{array_of}
-use Rattle.description.specs.Parts.{parts_of}
-use Rattle.description.specs.Sizes.{histories_of, positions_of, sizes_of, total, widest_of}
 use Rattle.description.specs.declared.records.ArrayRecord.{ArrayRecord}
-use Rattle.turns.specs.Grid.{columns_after, states_after}
-use Rattle.array.specs.Stages.{Column, next, out, stage_count}
-use Rattle.array.specs.Memories.{histories_from, memories_of, positions_from}
+use Rattle.array.specs.Stages.{Column}
 use Rattle.array.specs.Planar.{column_in, columns_in}
 use Rattle.array.specs.Lent.{Left, Lent}
 use Rattle.array.specs.Refusals.{block_refusal}
 use Rattle.array.specs.Calls.{Answers, array_played, brought, columns_from, head_played, histories_played, no_column, positions_played, states_from}
-use Rattle.admit.specs.Admits.{Admitted, lent_of}
 use Rattle.admit.proofs.Letting.{admitted_only}
 use Rattle.demands.specs.Calls.{Call, block, count_of, handed}
-use Rattle.demands.proofs.Below.{columns_length}
 use Rattle.demands.proofs.Outputs.{handed_are}
 use Rattle.lines.specs.Lines.{Printed}
-use Rattle.lines.specs.Text.{column_of, line_of, lines_of, outputs_of}
-use Rattle.wna.specs.Columns.{number_at, planar_of, spread_of}
+use Rattle.lines.specs.Text.{column_of, lines_of, outputs_of}
+use Rattle.wna.specs.Columns.{number_at, spread_of}
 use Rattle.wna.specs.File.{width_of}
 use Rattle.wna.proofs.Planar.{at_planar}
 use Rattle.player.specs.Fits.{Ready}
-use Rattle.player.specs.Plays.{Heard, Plays, column_held, column_lines, columns_held, columns_past}
+use Rattle.player.specs.Plays.{Plays, column_held, column_lines, columns_held}
 use Rattle.player.proofs.Hearing.{heard_histories, heard_places, heard_positions}
 
 -- ---- lines

@@ -1,5 +1,5 @@
 -- No more columns are left than were counted, and histories and positions are those after the columns that are not left. The measure is what is left.
-use Rattle.std.proofs.Common.{◌≡◌, ◌≤◌, ◌-◌, length}
+use Rattle.std.proofs.Common.{◌≤◌, ◌-◌}
 use Rattle.player.specs.Plays.{Heard}
 use Rattle.player.proofs.stream.stream.Given as goal
 

@@ -1,5 +1,5 @@
 -- What was read is no more than was asked for, so the whole columns are no more than the block (Room).
-use Rattle.std.proofs.Common.{◌≤◌, ◌*◌, arith, length}
+use Rattle.std.proofs.Common.{◌≤◌, ◌*◌, arith}
 use Rattle.std.proofs.Math.ListN.{length-append, length-replicate, length-take}
 use Rattle.wna.specs.File.{width_of}
 use Rattle.player.proofs.Room.{bytes_room, on_err, partly, ready_on, whole_most, whole_there}
