@@ -26,7 +26,7 @@ returns-then-played-n-clause-ended g c =
 pub overflow_sub-left : goal.overflow_sub-left
 overflow_sub-left g c =
     let next = next_is c.args.block c.loop-left.left c.next_block-n.ensures c.requires.le_block.0 c.loop-left-test.true in
-    next.there
+    omega (arith, next.there, next.some)
 
 pub loop-left-smaller : goal.loop-left-smaller
 loop-left-smaller g c =
