@@ -1,5 +1,6 @@
 -- One alone by `one_is`; four lanes, and eight, are as many outputs, by `lanes_are`.
 use Prim.Native.Nat.{◌+◌}
+use mathlib.Core.Path.{◌≡◌}
 use native.Mathlib.Omega.{arith}
 use Rattle.shape.proofs.Bounds.{kernel_le}
 use Rattle.column.proofs.Indices.{bias_in, group_end}
@@ -76,13 +77,14 @@ start_four-begun-requires c =
     let args = c.args in
     let f = pre.0 in
     let end = group_end f.divided f.range args.g pre.1.group_in in
-    let all = c.if-n-eq4.true in
+    let all : c.args.n ≡ 4 = omega arith in
     λ b. omega (arith, c.kernel_count.ensures, bias_in args.sh (args.o + 4) _ f.weights_is (omega (arith, end, pre.1.high, all)) b)
 
 pub taps_four-sums-requires : goal.taps_four-sums-requires
 taps_four-sums-requires c =
     let pre = c.requires in
-    (pre.0, rw c.if-n-eq4.true at pre.1)
+    let four : c.args.n ≡ 4 = omega arith in
+    (pre.0, rw four at pre.1)
 
 pub overflow_mul-o : goal.overflow_mul-o
 overflow_mul-o c =
@@ -90,7 +92,7 @@ overflow_mul-o c =
     let args = c.args in
     let f = pre.0 in
     let end = group_end f.divided f.range args.g pre.1.group_in in
-    let all = c.if-n-eq4.true in
+    let all : c.args.n ≡ 4 = omega arith in
     omega (arith, pre.3 args.o (omega (arith, end, pre.1.high, all)))
 
 pub overflow_add-out : goal.overflow_add-out
@@ -99,7 +101,7 @@ overflow_add-out c =
     let args = c.args in
     let f = pre.0 in
     let end = group_end f.divided f.range args.g pre.1.group_in in
-    let all = c.if-n-eq4.true in
+    let all : c.args.n ≡ 4 = omega arith in
     omega (arith, pre.3 args.o (omega (arith, end, pre.1.high, all)))
 
 pub put_half-requires : goal.put_half-requires
@@ -108,7 +110,7 @@ put_half-requires c =
     let args = c.args in
     let f = pre.0 in
     let end = group_end f.divided f.range args.g pre.1.group_in in
-    let all = c.if-n-eq4.true in
+    let all : c.args.n ≡ 4 = omega arith in
     λ i hi. omega (arith, pre.3 (args.o + i) (omega (arith, end, pre.1.high, all, hi)))
 
 pub start_eight-begun-requires : goal.start_eight-begun-requires

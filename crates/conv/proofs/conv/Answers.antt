@@ -1,12 +1,13 @@
 -- A single column is a block of one, by `one_is`; else `parts` says it.
-use mathlib.Core.Path.{refl}
+use mathlib.Core.Path.{◌≡◌, refl}
 use native.Mathlib.Omega.{arith}
 use Rattle.conv.proofs.Cuts.{one_fits, one_is}
 use Rattle.conv.proofs.conv.Goals as goal
 
 pub column-requires : goal.column-requires
 column-requires c =
-    let f = one_fits c.args.weights.now c.args.history.now c.args.work.now (rw c.if-m-eq1.true at c.requires) refl in
+    let one : c.args.m ≡ 1 = omega arith in
+    let f = one_fits c.args.weights.now c.args.history.now c.args.work.now (rw one at c.requires) refl in
     (f.parts, λ i hi. omega (arith, f.x_in i hi), λ o ho. omega (arith, f.out_in o ho))
 
 pub returns-then-m-eq1 : goal.returns-then-m-eq1

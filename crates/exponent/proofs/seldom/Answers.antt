@@ -16,7 +16,7 @@ unfolding nan_bits
 float_from_bits-result c = tt
 
 pub returns-then-a-ge1118961664 : goal.returns-then-a-ge1118961664
-returns-then-a-ge1118961664 c = ap (of_bits binary32) (sym (at_high c.args.bits c.if-a-gt2139095040.false c.if-bits-lt2147483648.true c.if-a-ge1118961664.true))
+returns-then-a-ge1118961664 c = ap (of_bits binary32) (sym (at_high c.args.bits c.if-a-gt2139095040.false c.if-bits-lt2147483648.true (omega arith)))
 
 pub float_from_bits-result-then-a-ge1120927744 : goal.float_from_bits-result-then-a-ge1120927744
 unfolding nan_bits
@@ -29,4 +29,4 @@ pub edge-requires : goal.edge-requires
 edge-requires c = (c.requires, elim c.if-bits-lt2147483648.branch [ then-bits-lt2147483648+else-a-ge1118961664 w ↦ omega arith | else-bits-lt2147483648+else-a-ge1120927744 w ↦ omega arith ])
 
 pub returns : goal.returns
-returns c = c.edge.ensures ∙ ap (of_bits binary32) (sym (elim c.if-bits-lt2147483648.branch [ then-bits-lt2147483648+else-a-ge1118961664 w ↦ at-positive c.args.bits w.if-bits-lt2147483648.true w.if-a-ge1118961664.false | else-bits-lt2147483648+else-a-ge1120927744 w ↦ at_negative c.args.bits w.if-bits-lt2147483648.false w.if-a-ge1120927744.false ]))
+returns c = c.edge.ensures ∙ ap (of_bits binary32) (sym (elim c.if-bits-lt2147483648.branch [ then-bits-lt2147483648+else-a-ge1118961664 w ↦ at-positive c.args.bits w.if-bits-lt2147483648.true (omega arith) | else-bits-lt2147483648+else-a-ge1120927744 w ↦ at_negative c.args.bits w.if-bits-lt2147483648.false w.if-a-ge1120927744.false ]))

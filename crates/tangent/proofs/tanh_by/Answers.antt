@@ -15,11 +15,11 @@ unfolding Tanh
 returns-then-a-ge1092616192 c = c.seldom.ensures ∙ rw c.to_bits-b.ensures
 
 pub overflow_add-result : goal.overflow_add-result
-overflow_add-result c = record { fits = omega (arith, c.between_of.ensures, between_le _ c.if-a-le956301312.false c.if-a-ge1092616192.false) }
+overflow_add-result c = record { fits = omega (arith, c.between_of.ensures, between_le _ c.if-a-le956301312.false (omega arith)) }
 
 pub float_from_bits-result : goal.float_from_bits-result
-float_from_bits-result c = no_nan_pattern _ (omega (arith, c.between_of.ensures, between_le _ c.if-a-le956301312.false c.if-a-ge1092616192.false))
+float_from_bits-result c = no_nan_pattern _ (omega (arith, c.between_of.ensures, between_le _ c.if-a-le956301312.false (omega arith)))
 
 pub returns : goal.returns
 unfolding Tanh
-returns c = rw (c.between_of.ensures, ← at-between c.to_bits-b.result c.if-a-le956301312.false c.if-a-ge1092616192.false, c.to_bits-b.ensures)
+returns c = rw (c.between_of.ensures, ← at-between c.to_bits-b.result c.if-a-le956301312.false (omega arith), c.to_bits-b.ensures)

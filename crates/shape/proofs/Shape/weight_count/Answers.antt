@@ -1,7 +1,9 @@
 use native.Mathlib.Nat.{add-zero}
 use Rattle.shape.specs.Counts.{weight_count}
 use Rattle.shape.proofs.Bounds.{kernel_le}
-use mathlib.Core.Path.{sym}
+use mathlib.Core.Path.{◌≡◌, sym}
+use mathlib.Core.Bool.{false}
+use borrow.Author.Rules.{rules}
 use native.Mathlib.Omega.{arith}
 use Rattle.shape.proofs.Shape.weight_count.Goals as goal
 
@@ -14,4 +16,4 @@ returns-then-biased c = rw (c.if-biased.true, c.kernel_count-count.ensures)
 
 pub returns : goal.returns
 unfolding weight_count
-returns c = rw (c.if-biased.false, c.kernel_count-count.ensures) (sym (add-zero _))
+returns c = let none : c.args.self.biased ≡ false = search rules in rw (none, c.kernel_count-count.ensures) (sym (add-zero _))
