@@ -1,4 +1,5 @@
 -- The ways out of the check of a call, from what its tests told. Assumes nothing.
+use Rattle.std.specs.Prelude.{Err, Ok}
 use mathlib.Core.Path.{◌≡◌, sym, ◌∙◌, ap, subst}
 use mathlib.Core.Bool.{Bool, true, false}
 use Prim.Native.Nat.{ℕ, ◌*◌, ◌≤◌, ◌<◌}
@@ -6,13 +7,13 @@ use native.Mathlib.Nat.{mul-le-mul}
 use native.Mathlib.Omega.{arith}
 use lib.ListN.{length}
 use borrow.Author.Tests.{eqb-false}
-use Rattle.description.specs.Answers.{Answers, number_of}
+use Rattle.description.specs.Answers.{Answers}
+use Rattle.refusal.specs.Number.{number_of}
 use Rattle.description.specs.Parts.{parts_of}
 use Rattle.description.specs.Records.{array_of}
 use Rattle.description.specs.Refusals.{refusal_of}
 use Rattle.description.specs.Sizes.{positions_of, sizes_of, total}
-use Rattle.description.specs.declared.answers.Checked.{Checked}
-use Rattle.description.specs.declared.answers.Checked.TheVariants.{Refused, Sound}
+use Rattle.description.specs.Checked.{Checked}
 use Rattle.description.specs.declared.answers.Sizes.{Sizes}
 use Rattle.description.specs.declared.records.ArrayRecord.{ArrayRecord}
 use Rattle.description.proofs.Facts.{refused_only, sound_only}
@@ -38,14 +39,14 @@ refusing b n e ne = record { number = e; sound = λ z. absurd (ne z) }
 
 module _ (b : Lent) (n : ℕ) {checked : Checked} (answer : Answers b.description checked) where
   -- the description is refused
-  pub refused : {k : ℕ} → checked ≡ Refused k → Admits b n checked
+  pub refused : {k : ℕ} → checked ≡ Err k → Admits b n checked
   refused e =
       let a = refused_only b.description (subst (Answers b.description) e answer) in
       let ne = eqb-false (refusal_of b.description) 0 a.1 in
       let same : block_refusal b n ≡ refusal_of b.description = low_refused b n ne in
       refusing b n (answer.number ∙ sym same) (λ z. ne (sym same ∙ z))
 
-  module _ {s : Sizes} (e : checked ≡ Sound s) where
+  module _ {s : Sizes} (e : checked ≡ Ok s) where
     pub described : refusal_of b.description ≡ 0
     described = (sound_only b.description (subst (Answers b.description) e answer)).0
 
@@ -56,7 +57,7 @@ module _ (b : Lent) (n : ℕ) {checked : Checked} (answer : Answers b.descriptio
     unfolding sizes_of
     widest_low = omega (arith, ap (λ (s : Sizes). s.widest) sizes_are, widest_most b.description described)
 
-    pub many_columns : 1024 < n → Admits b n (Refused 6)
+    pub many_columns : 1024 < n → Admits b n (Err 6)
     unfolding number_of
     many_columns lt =
         let z : block_refusal b n ≡ 6 = (six_exactly_when b n).1 (described, too_many n lt) in
@@ -70,7 +71,7 @@ module _ (b : Lent) (n : ℕ) {checked : Checked} (answer : Answers b.descriptio
           ∙ ap (λ (a : ArrayRecord). differing (lengths_of b) a s n) ae
           ∙ ap (λ (s : Sizes). differing (lengths_of b) (array_of b.description) s n) sizes_are
 
-      pub other_lengths : differ ≡ true → Admits b n (Refused 7)
+      pub other_lengths : differ ≡ true → Admits b n (Err 7)
       unfolding number_of
       other_lengths t =
           let z : block_refusal b n ≡ 7 = (seven_exactly_when b n).1 (described, few n le, sym seven_is ∙ t) in
@@ -85,16 +86,16 @@ module _ (b : Lent) (n : ℕ) {checked : Checked} (answer : Answers b.descriptio
           unfolding refused8
           eight_is = fe
 
-          pub far_position : far ≡ true → Admits b n (Refused 8)
+          pub far_position : far ≡ true → Admits b n (Err 8)
           unfolding number_of
           far_position t =
               let z : block_refusal b n ≡ 8 = (eight_exactly_when b n).1 (described, few n le, sym seven_is ∙ f, sym eight_is ∙ t) in
               refusing b n (sym z) (λ q. omega arith)
 
-          pub done : far ≡ false → Admits b n (Sound s)
+          pub done : far ≡ false → Admits b n (Ok s)
           unfolding number_of
           done t =
               record {
                 number = sym ((none_exactly_when b n).1 (described, few n le, sym seven_is ∙ f, sym eight_is ∙ t));
-                sound = λ z. ap Sound sizes_are;
+                sound = λ z. ap Ok sizes_are;
               }

@@ -1,5 +1,6 @@
 -- The theorems on the check of a call: each of the numbers 6 to 9 is given exactly when its test holds and no lower one, both ways; a single
 -- column is a block of one; any two answers agree. Letting.antt says what holds where no number is given. Assumes nothing.
+use Rattle.std.specs.Prelude.{Err, Ok}
 use mathlib.Core.Path.{◌≡◌, refl, sym, ◌∙◌, ap}
 use mathlib.Core.Bool.{Bool, true, false, cond}
 use mathlib.Core.List.{List}
@@ -11,10 +12,9 @@ use borrow.Author.Tests.{eqb-false, eqb-true, ne_eqb, not-false, not-true}
 use Rattle.turns.specs.Plan.{keeps_rule}
 use Rattle.description.specs.Sizes.{sizes_of}
 use Rattle.description.specs.Refusals.{refusal_of}
-use Rattle.description.specs.Answers.{number_of}
+use Rattle.refusal.specs.Number.{number_of}
 use Rattle.description.specs.declared.answers.Sizes.{Sizes}
-use Rattle.description.specs.declared.answers.Checked.{Checked}
-use Rattle.description.specs.declared.answers.Checked.TheVariants.{Refused, Sound}
+use Rattle.description.specs.Checked.{Checked}
 use Rattle.description.proofs.Facts.{First, refusal_exactly_when, refusal_most, tests_of}
 use Rattle.array.specs.Stages.{stage_count}
 use Rattle.array.specs.Lent.{Lent}
@@ -135,20 +135,20 @@ unfolding column_refusal block_refusal refused6
 column_is_block b = rw (same (refusal_of b.description) 6)
 
 -- what the answer has to be
-sound_of : {s t : Sizes} → Sound s ≡ Sound t → s ≡ t
+sound_of : {s t : Sizes} → Ok s ≡ Ok t → s ≡ t
 sound_of e = cc
 
-never : {k : ℕ} {s : Sizes} → Refused k ≡ Sound s → ⊥
+never : {k : ℕ} {s : Sizes} → Err k ≡ Ok s → ⊥
 never e = let z : ◌≡◌ {A = ℕ} 0 1 = cc in omega arith
 
-answer_by : (z : Bool) (m : ℕ) (s : Sizes) (r : Checked) → z ≡ eqb m 0 → number_of r ≡ m → (m ≡ 0 → r ≡ Sound s) → r ≡ cond z (Sound s) (Refused m)
+answer_by : (z : Bool) (m : ℕ) (s : Sizes) (r : Checked) → z ≡ eqb m 0 → number_of r ≡ m → (m ≡ 0 → r ≡ Ok s) → r ≡ cond z (Ok s) (Err m)
 unfolding number_of
 answer_by true m s r e number sound = sound (eqb-true m 0 (sym e))
-answer_by false m s (Refused k) e number sound = ap Refused number
-answer_by false m s (Sound t) e number sound = absurd (eqb-false m 0 (sym e) (sym number))
+answer_by false m s (Err k) e number sound = ap Err number
+answer_by false m s (Ok t) e number sound = absurd (eqb-false m 0 (sym e) (sym number))
 
 module _ {b : Lent} {n : ℕ} where
-  pub answer_is : {r : Checked} → Admits b n r → r ≡ cond (eqb (block_refusal b n) 0) (Sound (sizes_of b.description)) (Refused (block_refusal b n))
+  pub answer_is : {r : Checked} → Admits b n r → r ≡ cond (eqb (block_refusal b n) 0) (Ok (sizes_of b.description)) (Err (block_refusal b n))
   answer_is {r} a = answer_by (eqb (block_refusal b n) 0) (block_refusal b n) (sizes_of b.description) r refl a.number a.sound
 
   -- any two answers that meet the contract agree
@@ -156,10 +156,10 @@ module _ {b : Lent} {n : ℕ} where
   admits_agree a c = answer_is a ∙ sym (answer_is c)
 
   -- sizes are handed back of a call that is not refused, and they are the formulas
-  pub sound_only : {s : Sizes} → Admits b n (Sound s) → (block_refusal b n ≡ 0) × (s ≡ sizes_of b.description)
+  pub sound_only : {s : Sizes} → Admits b n (Ok s) → (block_refusal b n ≡ 0) × (s ≡ sizes_of b.description)
   unfolding number_of
   sound_only a = let z = sym a.number in (z, sound_of (a.sound z))
 
-  pub refused_only : {k : ℕ} → Admits b n (Refused k) → (k ≡ block_refusal b n) × (block_refusal b n ≡ 0 → ⊥)
+  pub refused_only : {k : ℕ} → Admits b n (Err k) → (k ≡ block_refusal b n) × (block_refusal b n ≡ 0 → ⊥)
   unfolding number_of
   refused_only a = (a.number, λ z. never (a.sound z))

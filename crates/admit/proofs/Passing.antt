@@ -1,4 +1,5 @@
 -- A pass over the positions and the rings of their parts: part by part and layer by layer. Assumes nothing.
+use Rattle.std.specs.Prelude.{None, Some}
 use mathlib.Core.Path.{◌≡◌, refl, sym, ◌∙◌, ap}
 use mathlib.Core.Bool.{false, not, or_assoc, or-false, ◌||◌}
 use mathlib.Core.List.{List, [], ◌∷◌, ◌++◌}
@@ -20,8 +21,7 @@ use Rattle.description.specs.Parts.{each_layer, head_rechannel_of, parts_of, par
 use Rattle.description.specs.Sizes.{positions_of, total}
 use Rattle.description.specs.declared.records.ArrayRecord.{ArrayRecord}
 use Rattle.description.specs.declared.records.LayerRecord.{LayerRecord}
-use Rattle.description.specs.declared.parts.Part.{Part}
-use Rattle.description.specs.declared.parts.Part.TheVariants.{Absent, There}
+use Rattle.description.specs.Part.{Part}
 use Rattle.description.proofs.Sound.{within}
 use Rattle.description.proofs.Totals.{total-append}
 use Rattle.array.specs.Refusals.{beyond}
@@ -35,17 +35,17 @@ not_ltb a b =
 beyond-none : (ps : List Part) → beyond ps [] ≡ false
 unfolding beyond
 beyond-none [] = refl
-beyond-none (Absent ∷ ps) = beyond-none ps
-beyond-none (There sh ∷ ps) = refl
+beyond-none (None ∷ ps) = beyond-none ps
+beyond-none (Some sh ∷ ps) = refl
 
 -- parts end to end: the second ones' positions follow those of the first
 pub beyond-append : (xs ys : List Part) (places : List ℕ)
     → beyond (xs ++ ys) places ≡ (beyond xs places || beyond ys (drop (total positions_of xs) places))
 unfolding beyond total positions_of
 beyond-append [] ys places = refl
-beyond-append (Absent ∷ xs) ys places = rw (zero-add (total positions_of xs)) (beyond-append xs ys places)
-beyond-append (There sh ∷ xs) ys [] = rw (drop-nil {A = ℕ} (1 + total positions_of xs), beyond-none ys)
-beyond-append (There sh ∷ xs) ys (p ∷ places) =
+beyond-append (None ∷ xs) ys places = rw (zero-add (total positions_of xs)) (beyond-append xs ys places)
+beyond-append (Some sh ∷ xs) ys [] = rw (drop-nil {A = ℕ} (1 + total positions_of xs), beyond-none ys)
+beyond-append (Some sh ∷ xs) ys (p ∷ places) =
     let e : 1 + total positions_of xs ≡ suc (total positions_of xs) = omega arith in
     rw (e, beyond-append xs ys places)
     (sym (or_assoc (not (ltb p (ring_length sh))) (beyond xs places) (beyond ys (drop (total positions_of xs) places))))
@@ -67,12 +67,12 @@ unfolding passed total beyond
 passed_none positions p = rw (add-zero p.at, or-false p.beyond)
 
 -- one part
-pub passed_absent : (positions : List ℕ) (p : Pass) → p ≡ passed positions p (Absent ∷ [])
+pub passed_absent : (positions : List ℕ) (p : Pass) → p ≡ passed positions p (None ∷ [])
 unfolding passed total positions_of beyond
 passed_absent positions p = rw (add-zero p.at, or-false p.beyond)
 
 pub passed_there : (positions : List ℕ) (p : Pass) (sh : Shape) → p.at < length positions → {ring : ℕ} → ring ≡ ring_length sh
-    → ◌≡◌ {A = Pass} (record { at = p.at + 1; beyond = p.beyond || leb ring (get_or positions p.at 0) }) (passed positions p (There sh ∷ []))
+    → ◌≡◌ {A = Pass} (record { at = p.at + 1; beyond = p.beyond || leb ring (get_or positions p.at 0) }) (passed positions p (Some sh ∷ []))
 unfolding passed total positions_of beyond
 passed_there positions p sh lt e =
     rw (
@@ -84,18 +84,18 @@ passed_there positions p sh lt e =
 
 -- the loop over a list of parts: k of them are passed
 module _ (positions : List ℕ) (start : Pass) (ps : List Part) (k : ℕ) {p : Pass} (e : p ≡ passed positions start (take k ps)) where
-  pub part_room : start.at + total positions_of ps ≤ length positions → p.at + positions_of (get_or ps k Absent) ≤ length positions
+  pub part_room : start.at + total positions_of ps ≤ length positions → p.at + positions_of (get_or ps k None) ≤ length positions
   unfolding passed positions_of
   part_room fits = omega (arith, ap (λ (p : Pass). p.at) e, within positions_of refl ps k)
 
-  pub part_more : k < length ps → {part : Part} {q : Pass} → part ≡ get_or ps k Absent → q ≡ passed positions p (part ∷ [])
+  pub part_more : k < length ps → {part : Part} {q : Pass} → part ≡ get_or ps k None → q ≡ passed positions p (part ∷ [])
       → q ≡ passed positions start (take (k + 1) ps)
   part_more lt pe qe =
       qe
       ∙ ap (λ (part : Part). passed positions p (part ∷ [])) pe
-      ∙ ap (λ (p : Pass). passed positions p (get_or ps k Absent ∷ [])) e
-      ∙ passed-append positions start (take k ps) (get_or ps k Absent ∷ [])
-      ∙ ap (passed positions start) (rw (add-one k) (sym (take-suc ps k Absent lt)))
+      ∙ ap (λ (p : Pass). passed positions p (get_or ps k None ∷ [])) e
+      ∙ passed-append positions start (take k ps) (get_or ps k None ∷ [])
+      ∙ ap (passed positions start) (rw (add-one k) (sym (take-suc ps k None lt)))
 
   pub parts_end : length ps ≤ k → p ≡ passed positions start ps
   parts_end le = e ∙ ap (passed positions start) (take_all k ps le)

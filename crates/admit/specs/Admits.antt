@@ -1,15 +1,13 @@
 -- What is promised of the check of a call, and what holds of a call that it lets through. Document 01, 'Refusal numbers' 1 to 8.
-use Rattle.std.specs.Prelude.{◌≡◌, List, ℕ, ◌*◌, ◌≤◌, ◌<◌, get_or, length, Float}
+use Rattle.std.specs.Prelude.{◌≡◌, List, ℕ, ◌*◌, ◌≤◌, ◌<◌, get_or, length, Float, None, Ok, Some}
 use Rattle.shape.specs.declared.Shape.{Shape}
 use Rattle.shape.specs.Counts.{ring_length}
 use Rattle.description.specs.Records.{array_of}
 use Rattle.description.specs.Parts.{parts_of}
 use Rattle.description.specs.Sizes.{place_at, sizes_of, widest_of}
 use Rattle.description.specs.Refusals.{refusal_of}
-use Rattle.description.specs.Answers.{number_of}
-use Rattle.description.specs.declared.parts.Part.TheVariants.{Absent, There}
-use Rattle.description.specs.declared.answers.Checked.{Checked}
-use Rattle.description.specs.declared.answers.Checked.TheVariants.{Sound}
+use Rattle.refusal.specs.Number.{number_of}
+use Rattle.description.specs.Checked.{Checked}
 use Rattle.array.specs.Lent.{Lent}
 use Rattle.array.specs.Refusals.{block_refusal}
 
@@ -32,7 +30,7 @@ lent_of description weights histories positions input condition head_in head_out
 -- the answer on a block of n columns, lent b: the lowest number of 1 to 8 that applies, and the sizes where none does
 pub record Admits (b : Lent) (n : ℕ) (r : Checked) : Type 0 where
   pub number : number_of r ≡ block_refusal b n
-  pub sound : block_refusal b n ≡ 0 → r ≡ Sound (sizes_of b.description)
+  pub sound : block_refusal b n ≡ 0 → r ≡ Ok (sizes_of b.description)
 
 -- what is lent fits a block of n columns
 pub record Admitted (b : Lent) (n : ℕ) : Type 0 where
@@ -47,5 +45,5 @@ pub record Admitted (b : Lent) (n : ℕ) : Type 0 where
   pub head_out : length b.head_out ≡ (array_of b.description).head_size * n
   pub array_out : length b.array_out ≡ (array_of b.description).channels * n
   pub scratch : 16 * widest_of b.description * n ≤ length b.scratch
-  pub places : (i : ℕ) (sh : Shape) → get_or (parts_of b.description) i Absent ≡ There sh
+  pub places : (i : ℕ) (sh : Shape) → get_or (parts_of b.description) i None ≡ Some sh
       → get_or b.positions (place_at b.description i).positions 0 < ring_length sh

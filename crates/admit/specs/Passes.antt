@@ -2,7 +2,7 @@
 -- it.
 use Rattle.std.specs.Prelude.{◌||◌, List, ℕ, ◌+◌, drop}
 use Rattle.description.specs.Sizes.{positions_of, total}
-use Rattle.description.specs.declared.parts.Part.{Part}
+use Rattle.description.specs.Part.{Part}
 use Rattle.array.specs.Refusals.{beyond}
 use Rattle.admit.specs.declared.places.Pass.{Pass}
 

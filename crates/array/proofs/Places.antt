@@ -1,4 +1,5 @@
 -- Where the parts' numbers lie: one after the other, none in common. So what one stage changes leaves the memories of all others. Assumes nothing.
+use Rattle.std.specs.Prelude.{None}
 use mathlib.Core.Path.{◌≡◌}
 use mathlib.Core.List.{List, []}
 use mathlib.Core.Logic.{◌⊎◌, inl, inr, ⊎_elim}
@@ -16,8 +17,7 @@ use Rattle.lists.proofs.Tab.{tab_ext}
 use Rattle.description.specs.Numbers.{layer_count}
 use Rattle.description.specs.Parts.{parts_of}
 use Rattle.description.specs.Sizes.{histories_of, positions_of, total, place_of, place_at}
-use Rattle.description.specs.declared.parts.Part.{Part}
-use Rattle.description.specs.declared.parts.Part.TheVariants.{Absent}
+use Rattle.description.specs.Part.{Part}
 use Rattle.slot.specs.View.{memory_in}
 use Rattle.slot.proofs.Trace.{memory_kept}
 use Rattle.layer.proofs.Places.{total_more, total_mono, total_le}
@@ -65,7 +65,7 @@ unfolding memories_of memory_of_part part_at memory_in
 beyond_same d j l histories histories' positions positions' =
     tab_ext (record { history = []; place = 0 }) (part_count d j) _ _ (λ i h.
     let far : length (parts_of d) ≤ first_part j + i = omega (arith, length-parts d, first_mono (stage_count d) j l, first_last d) in
-    rw (get_or-eq_default (parts_of d) Absent far))
+    rw (get_or-eq_default (parts_of d) None far))
 
 module _ (d : List ℕ) (k : ℕ) (histories histories' : List Float) (positions positions' : List ℕ)
     (long : total histories_of (parts_of d) ≤ length histories)
@@ -85,7 +85,7 @@ module _ (d : List ℕ) (k : ℕ) (histories histories' : List Float) (positions
       (λ (l : suc j ≤ k). inl (total_mono f ps (suc i) (first_part k) (omega (arith, parts_end d j, first_mono (suc j) k l))))
       (λ (l : k < suc j). inr (total_mono f ps (first_part (suc k)) i (omega (arith, first_mono (suc k) j (omega (arith, l, lt_of k j l ne))))))
       (le_or_lt (suc j) k) in
-      memory_kept kept kept_places (get_or ps i Absent) _
+      memory_kept kept kept_places (get_or ps i None) _
       (omega (arith, more, whole, long))
       (λ n a b. ⊎_elim (λ l. omega (arith, more, a, b, l)) (λ l. omega (arith, more, a, b, l)) (where-is histories_of))
       (λ n a b. ⊎_elim (λ l. omega (arith, more', a, b, l)) (λ l. omega (arith, more', a, b, l)) (where-is positions_of))

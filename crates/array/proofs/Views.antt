@@ -1,4 +1,5 @@
 -- The memories of all parts, joined end to end, are the histories and the positions that they were read from. Assumes nothing.
+use Rattle.std.specs.Prelude.{None, Some}
 use mathlib.Core.Path.{◌≡◌, refl, sym, ◌∙◌, ap}
 use mathlib.Core.List.{List, [], ◌∷◌, ◌++◌, append_assoc, append-nil}
 use Prim.Native.Nat.{ℕ, zero, suc, ◌+◌, ◌*◌, ◌≤◌, ◌<◌}
@@ -17,8 +18,7 @@ use Rattle.shape.specs.Counts.{history_count}
 use Rattle.description.specs.Numbers.{layer_count}
 use Rattle.description.specs.Parts.{each_layer, parts_of}
 use Rattle.description.specs.Sizes.{weights_of, histories_of, positions_of, total, place_of, place_at, past_of}
-use Rattle.description.specs.declared.parts.Part.{Part}
-use Rattle.description.specs.declared.parts.Part.TheVariants.{Absent, There}
+use Rattle.description.specs.Part.{Part}
 use Rattle.description.specs.declared.places.Place.{Place}
 use Rattle.description.proofs.Sound.{length-parts}
 use Rattle.slot.specs.View.{memory_in}
@@ -38,8 +38,8 @@ module _ (histories : List Float) (positions : List ℕ) where
   pub histories_joined_are : (at : Place) (ps : List Part) → histories_joined (views_from at ps) ≡ part at.histories (total histories_of ps) histories
   unfolding views_from histories_joined total histories_of memory_in past_of
   histories_joined_are at [] = refl
-  histories_joined_are at (Absent ∷ ps) = rw (zero-add, histories_joined_are (past_of at Absent) ps, add-zero)
-  histories_joined_are at (There sh ∷ ps) = rw (histories_joined_are (past_of at (There sh)) ps) (part_join at.histories (history_count sh) (total histories_of ps) histories)
+  histories_joined_are at (None ∷ ps) = rw (zero-add, histories_joined_are (past_of at None) ps, add-zero)
+  histories_joined_are at (Some sh ∷ ps) = rw (histories_joined_are (past_of at (Some sh)) ps) (part_join at.histories (history_count sh) (total histories_of ps) histories)
 
   one_more : (i k : ℕ) (l : List ℕ) → i < length l → get_or l i 0 ∷ part (i + 1) k l ≡ part i (1 + k) l
   one_more i k l h = let e : 1 + k ≡ suc k = omega arith in rw (drop-cons l i 0 h, e, add-one i)
@@ -48,9 +48,9 @@ module _ (histories : List Float) (positions : List ℕ) where
       → positions_joined ps (views_from at ps) ≡ part at.positions (total positions_of ps) positions
   unfolding views_from positions_joined total positions_of memory_in past_of
   positions_joined_are at [] h = refl
-  positions_joined_are at (Absent ∷ ps) h = rw (zero-add) (positions_joined_are (past_of at Absent) ps (omega arith) ∙ ap (λ (i : ℕ). part i (total positions_of ps) positions) (add-zero at.positions))
-  positions_joined_are at (There sh ∷ ps) h =
-      ap (λ (l : List ℕ). get_or positions at.positions 0 ∷ l) (positions_joined_are (past_of at (There sh)) ps (omega arith))
+  positions_joined_are at (None ∷ ps) h = rw (zero-add) (positions_joined_are (past_of at None) ps (omega arith) ∙ ap (λ (i : ℕ). part i (total positions_of ps) positions) (add-zero at.positions))
+  positions_joined_are at (Some sh ∷ ps) h =
+      ap (λ (l : List ℕ). get_or positions at.positions 0 ∷ l) (positions_joined_are (past_of at (Some sh)) ps (omega arith))
       ∙ one_more at.positions (total positions_of ps) positions (omega arith)
 
 -- ---- the memories by part number are those, one after the other
@@ -76,15 +76,15 @@ none = record { history = []; place = 0 }
 
 module _ (histories : List Float) (positions : List ℕ) where
   -- part i of ps, where the parts `before` came first
-  by_number : (before ps : List Part) → tab (length ps) (λ i. memory_in (get_or ps i Absent) (place_of (before ++ take i ps)) histories positions)
+  by_number : (before ps : List Part) → tab (length ps) (λ i. memory_in (get_or ps i None) (place_of (before ++ take i ps)) histories positions)
       ≡ views_from histories positions (place_of before) ps
   unfolding tab views_from
   by_number before [] = refl
   by_number before (p ∷ ps) =
-      let tail : tab (length ps) (λ i. memory_in (get_or ps i Absent) (place_of (before ++ p ∷ take i ps)) histories positions)
+      let tail : tab (length ps) (λ i. memory_in (get_or ps i None) (place_of (before ++ p ∷ take i ps)) histories positions)
       ≡ views_from histories positions (past_of (place_of before) p) ps =
-      tab_ext none (length ps) _ (λ i. memory_in (get_or ps i Absent) (place_of ((before ++ p ∷ []) ++ take i ps)) histories positions)
-      (λ i h. ap (λ (l : List Part). memory_in (get_or ps i Absent) (place_of l) histories positions) (sym (append_assoc before (p ∷ []) (take i ps))))
+      tab_ext none (length ps) _ (λ i. memory_in (get_or ps i None) (place_of ((before ++ p ∷ []) ++ take i ps)) histories positions)
+      (λ i h. ap (λ (l : List Part). memory_in (get_or ps i None) (place_of l) histories positions) (sym (append_assoc before (p ∷ []) (take i ps))))
       ∙ by_number (before ++ p ∷ []) ps
       ∙ ap (λ (at : Place). views_from histories positions at ps) (place_more before p) in
       rw append-nil (ap (λ (l : List Memory). memory_in p (place_of before) histories positions ∷ l) tail)

@@ -1,11 +1,10 @@
 -- What the stages remember, as the histories and positions that are lent hold it. Document 01, 'Description' (order of convolutions).
-use Rattle.std.specs.Prelude.{List, [], ◌∷◌, ◌++◌, ℕ, ◌+◌, Float}
+use Rattle.std.specs.Prelude.{List, [], ◌∷◌, ◌++◌, ℕ, ◌+◌, Float, None, Some}
 use Rattle.lists.specs.Tab.{tab}
 use Rattle.ring.specs.Memory.{Memory}
 use Rattle.description.specs.Parts.{each_layer, parts_of}
 use Rattle.description.specs.Sizes.{place_at}
-use Rattle.description.specs.declared.parts.Part.{Part}
-use Rattle.description.specs.declared.parts.Part.TheVariants.{Absent, There}
+use Rattle.description.specs.Part.{Part}
 use Rattle.slot.specs.View.{memory_in}
 use Rattle.array.specs.Stages.{part_at, first_part, part_count, stage_count}
 
@@ -30,8 +29,8 @@ histories_joined (s ∷ ss) = s.history ++ histories_joined ss
 unfoldable pub positions_joined : List Part → List Memory → List ℕ
 positions_joined [] ss = []
 positions_joined (p ∷ ps) [] = []
-positions_joined (Absent ∷ ps) (s ∷ ss) = positions_joined ps ss
-positions_joined (There sh ∷ ps) (s ∷ ss) = s.place ∷ positions_joined ps ss
+positions_joined (None ∷ ps) (s ∷ ss) = positions_joined ps ss
+positions_joined (Some sh ∷ ps) (s ∷ ss) = s.place ∷ positions_joined ps ss
 
 unfoldable pub histories_from : List ℕ → (ℕ → List Memory) → List Float
 histories_from d st = histories_joined (all_memories d st)

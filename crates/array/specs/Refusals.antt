@@ -1,14 +1,13 @@
 -- The refusal numbers 6 to 9: "given exactly when", and the refusal of each call. Document 01, 'Refusal numbers'. Each test presumes the lower ones
 -- passed.
-use Rattle.std.specs.Prelude.{List, [], ◌∷◌, Bool, false, cond, not, ◌||◌, ℕ, ◌*◌, eqb, ltb, length}
+use Rattle.std.specs.Prelude.{List, [], ◌∷◌, Bool, false, cond, not, ◌||◌, ℕ, ◌*◌, eqb, ltb, length, None, Some}
 use Rattle.shape.specs.Counts.{ring_length}
 use Rattle.turns.specs.Plan.{keeps_rule}
 use Rattle.description.specs.Records.{array_of}
 use Rattle.description.specs.Parts.{parts_of}
 use Rattle.description.specs.Sizes.{sizes_of}
 use Rattle.description.specs.Refusals.{refusal_of}
-use Rattle.description.specs.declared.parts.Part.{Part}
-use Rattle.description.specs.declared.parts.Part.TheVariants.{Absent, There}
+use Rattle.description.specs.Part.{Part}
 use Rattle.array.specs.Stages.{stage_count}
 use Rattle.array.specs.Lent.{Lent}
 
@@ -32,9 +31,9 @@ refused7 b n =
 -- a position is not below the ring length of its part
 unfoldable pub beyond : List Part → List ℕ → Bool
 beyond [] places = false
-beyond (Absent ∷ ps) places = beyond ps places
-beyond (There sh ∷ ps) [] = false
-beyond (There sh ∷ ps) (place ∷ places) = not (ltb place (ring_length sh)) || beyond ps places
+beyond (None ∷ ps) places = beyond ps places
+beyond (Some sh ∷ ps) [] = false
+beyond (Some sh ∷ ps) (place ∷ places) = not (ltb place (ring_length sh)) || beyond ps places
 
 -- 8: a position is not below its ring length
 unfoldable pub refused8 : Lent → Bool

@@ -1,14 +1,13 @@
 -- The stages of an array, and what each does with a column. Document 01, 'The recurrence' (Array) and 'Plans': stage 0 is rechannel, 1..L the layers,
 -- L+1 the head rechannel.
-use Rattle.std.specs.Prelude.{cond, List, [], ◌∷◌, ℕ, zero, suc, ◌+◌, ◌*◌, ltb, get_or, Float}
+use Rattle.std.specs.Prelude.{cond, List, [], ◌∷◌, ℕ, zero, suc, ◌+◌, ◌*◌, ltb, get_or, Float, None}
 use Rattle.lists.specs.Tab.{at, tab}
 use Rattle.ring.specs.Memory.{Memory}
 use Rattle.description.specs.Numbers.{layer_count}
 use Rattle.description.specs.Records.{array_of, layer_of}
 use Rattle.description.specs.Parts.{parts_of, rechannel_of, head_rechannel_of}
 use Rattle.description.specs.Sizes.{place_at}
-use Rattle.description.specs.declared.parts.Part.{Part}
-use Rattle.description.specs.declared.parts.Part.TheVariants.{Absent}
+use Rattle.description.specs.Part.{Part}
 use Rattle.slot.specs.View.{weights_in}
 use Rattle.slot.specs.Steps.{pushed, convolved}
 use Rattle.layer.specs.Column.{after, signal, accumulated}
@@ -22,7 +21,7 @@ pub record Column : Type 0 where
 
 -- part number i
 unfoldable pub part_at : List ℕ → ℕ → Part
-part_at d i = get_or (parts_of d) i Absent
+part_at d i = get_or (parts_of d) i None
 
 -- the number of the first part of stage k: the rechannel has one, each layer twelve
 unfoldable pub first_part : ℕ → ℕ

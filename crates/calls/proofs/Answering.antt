@@ -1,4 +1,5 @@
 -- Each way out of a call meets its contract: refused, no columns, or all columns played. Assumes nothing.
+use Rattle.std.specs.Prelude.{Err, Ok}
 use mathlib.Core.Path.{◌≡◌, refl, sym, ◌∙◌, ap, subst}
 use mathlib.Core.Bool.{Bool, true, false}
 use mathlib.Core.List.{List, [], ◌∷◌}
@@ -12,11 +13,10 @@ use lib.Ieee.{Float}
 use Rattle.lists.specs.Tab.{tab}
 use Rattle.turns.specs.Grid.{states_after}
 use Rattle.turns.specs.Plan.{keeps_rule}
-use Rattle.description.specs.Answers.{number_of}
+use Rattle.refusal.specs.Number.{number_of}
 use Rattle.description.specs.Records.{array_of}
 use Rattle.description.specs.Sizes.{sizes_of, widest_of}
-use Rattle.description.specs.declared.answers.Checked.{Checked}
-use Rattle.description.specs.declared.answers.Checked.TheVariants.{Refused, Sound}
+use Rattle.description.specs.Checked.{Checked}
 use Rattle.description.specs.declared.answers.Sizes.{Sizes}
 use Rattle.description.proofs.Sound.{widest_most}
 use Rattle.array.specs.Stages.{stage_count}
@@ -104,11 +104,11 @@ module _ (b : Lent) where
 
   module _ (n : ℕ) {checked : Checked} (answers : Admits b n checked) where
     -- refused by 1 to 8
-    pub block_refused : {k answer : ℕ} → checked ≡ Refused k → answer ≡ number_of checked
+    pub block_refused : {k answer : ℕ} → checked ≡ Err k → answer ≡ number_of checked
         → Answers b n (block_refusal b n) (left_of answer b.histories b.positions b.head_out b.array_out b.scratch)
     block_refused is e = refused_as b n (block_refusal b n) (refused_only (subst (Admits b n) is answers)).1 (e ∙ answers.number)
 
-    pub planned_refused : (plan : List ℕ) {k answer : ℕ} → checked ≡ Refused k → answer ≡ number_of checked
+    pub planned_refused : (plan : List ℕ) {k answer : ℕ} → checked ≡ Err k → answer ≡ number_of checked
         → Answers b n (planned_refusal b n plan) (left_of answer b.histories b.positions b.head_out b.array_out b.scratch)
     unfolding planned_refusal
     planned_refused plan is e =
@@ -116,7 +116,7 @@ module _ (b : Lent) where
         let q : planned_refusal b n plan ≡ block_refusal b n = rw (ne_eqb (block_refusal b n) 0 ne) in
         refused_as b n (planned_refusal b n plan) (λ z. ne (sym q ∙ z)) (e ∙ answers.number ∙ sym q)
 
-    module _ {s : Sizes} (is : checked ≡ Sound s) where
+    module _ {s : Sizes} (is : checked ≡ Ok s) where
       pub sound_block : block_refusal b n ≡ 0
       sound_block = (sound_only (subst (Admits b n) is answers)).0
 

@@ -1,4 +1,5 @@
 -- Where the stages' numbers start, one after the other. Assumes nothing.
+use Rattle.std.specs.Prelude.{None}
 use mathlib.Core.Path.{◌≡◌, refl, sym, ◌∙◌, ap, subst}
 use mathlib.Core.List.{List, ◌∷◌}
 use Prim.Native.Nat.{ℕ, zero, suc, ◌+◌, ◌-◌, ◌*◌, ◌≤◌, ◌<◌}
@@ -15,8 +16,7 @@ use Rattle.description.specs.Records.{array_of, layer_of}
 use Rattle.description.specs.Refusals.{refusal_of}
 use Rattle.description.specs.Sizes.{weights_of, histories_of, positions_of, place_at, place_of, past_of}
 use Rattle.description.specs.Tally.{past_all}
-use Rattle.description.specs.declared.parts.Part.{Part}
-use Rattle.description.specs.declared.parts.Part.TheVariants.{Absent}
+use Rattle.description.specs.Part.{Part}
 use Rattle.description.specs.declared.places.Place.{Place}
 use Rattle.description.specs.declared.records.ArrayRecord.{ArrayRecord}
 use Rattle.description.specs.declared.records.LayerRecord.{LayerRecord}
@@ -81,7 +81,7 @@ module _ (d : List ℕ) (ok : refusal_of d ≡ 0) where
         rw (at, z, e ∙ ap head_rechannel_of is ∙ sym (part_last d))
         (sym (ap place_of (take_all _ (parts_of d) far ∙ sym (take_all _ (parts_of d) near))
         ∙ place_next d (12 * layer_count d + 1) (omega (arith, length-parts d))
-        ∙ ap (λ (j : ℕ). past_of (place_of (take j (parts_of d))) (get_or (parts_of d) (12 * layer_count d + 1) Absent)) (sym q)))
+        ∙ ap (λ (j : ℕ). past_of (place_of (take j (parts_of d))) (get_or (parts_of d) (12 * layer_count d + 1) None)) (sym q)))
 
 -- a list filled to its end
 pub filled : {l : List ℕ} (old : List ℕ) (k n : ℕ) (f : ℕ → ℕ) → k ≡ n → l ≡ fill 0 k f old → length old ≡ n → l ≡ tab n f

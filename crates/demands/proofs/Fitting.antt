@@ -1,4 +1,5 @@
 -- Memories that have the sizes of their parts: joined end to end and read again, they are what they were. Assumes nothing.
+use Rattle.std.specs.Prelude.{None, Some}
 use mathlib.Core.Path.{◌≡◌, refl, sym, ◌∙◌, ap}
 use mathlib.Core.List.{List, [], ◌∷◌, ◌++◌}
 use mathlib.Core.Logic.{⊎_elim}
@@ -14,8 +15,7 @@ use Rattle.shape.specs.Counts.{history_count}
 use Rattle.shape.specs.declared.Shape.{Shape}
 use Rattle.description.specs.Parts.{each_layer}
 use Rattle.description.specs.Sizes.{histories_of, positions_of, total, place_of}
-use Rattle.description.specs.declared.parts.Part.{Part}
-use Rattle.description.specs.declared.parts.Part.TheVariants.{Absent, There}
+use Rattle.description.specs.Part.{Part}
 use Rattle.slot.specs.View.{memory_in}
 use Rattle.array.specs.Memories.{histories_joined, positions_joined}
 
@@ -25,8 +25,8 @@ none = record { history = []; place = 0 }
 
 -- a memory of a part's size
 unfoldable pub Fits : Part → Memory → Type 0
-Fits Absent s = s ≡ none
-Fits (There sh) s = length s.history ≡ history_count sh
+Fits None s = s ≡ none
+Fits (Some sh) s = length s.history ≡ history_count sh
 
 -- memories of parts, one by one
 unfoldable pub AllFit : List Part → List Memory → Type 0
@@ -42,7 +42,7 @@ fit_length [] (s ∷ ss) h = absurd h
 fit_length (p ∷ ps) [] h = absurd h
 fit_length (p ∷ ps) (s ∷ ss) h = ap suc (fit_length ps ss h.1)
 
-pub fit_at : (ps : List Part) (ss : List Memory) → AllFit ps ss → (i : ℕ) → i < length ps → Fits (get_or ps i Absent) (get_or ss i none)
+pub fit_at : (ps : List Part) (ss : List Memory) → AllFit ps ss → (i : ℕ) → i < length ps → Fits (get_or ps i None) (get_or ss i none)
 unfolding AllFit
 fit_at [] [] h i l = absurd (not-suc-le-zero l)
 fit_at [] (s ∷ ss) h i l = absurd h
@@ -50,7 +50,7 @@ fit_at (p ∷ ps) [] h i l = absurd h
 fit_at (p ∷ ps) (s ∷ ss) h zero l = h.0
 fit_at (p ∷ ps) (s ∷ ss) h (suc i) l = fit_at ps ss h.1 i (le_of_suc-le-suc l)
 
-pub fit_by : (ps : List Part) (ss : List Memory) → length ss ≡ length ps → ((i : ℕ) → i < length ps → Fits (get_or ps i Absent) (get_or ss i none)) → AllFit ps ss
+pub fit_by : (ps : List Part) (ss : List Memory) → length ss ≡ length ps → ((i : ℕ) → i < length ps → Fits (get_or ps i None) (get_or ss i none)) → AllFit ps ss
 unfolding AllFit
 fit_by [] [] e h = tt
 fit_by [] (s ∷ ss) e h = omega arith
@@ -95,12 +95,12 @@ module _ {A : Type 0} (f : ℕ → List A) where
 -- ---- joined and read again
 history_fits : (p : Part) (s : Memory) → Fits p s → length s.history ≡ histories_of p
 unfolding Fits histories_of
-history_fits Absent s h = ap (λ (s : Memory). length s.history) h
-history_fits (There sh) s h = h
+history_fits None s h = ap (λ (s : Memory). length s.history) h
+history_fits (Some sh) s h = h
 
 -- the history of part i in all histories
 history_at : (ps : List Part) (ss : List Memory) → AllFit ps ss → (i : ℕ) → i < length ps
-    → part (total histories_of (take i ps)) (histories_of (get_or ps i Absent)) (histories_joined ss) ≡ (get_or ss i none).history
+    → part (total histories_of (take i ps)) (histories_of (get_or ps i None)) (histories_joined ss) ≡ (get_or ss i none).history
 unfolding AllFit total histories_joined
 history_at [] [] h i l = absurd (not-suc-le-zero l)
 history_at [] (s ∷ ss) h i l = absurd h
@@ -110,27 +110,27 @@ history_at (p ∷ ps) (s ∷ ss) h (suc i) l =
     rw (← history_fits p s h.0, drop-append-add s.history (histories_joined ss) (total histories_of (take i ps))) (history_at ps ss h.1 i (le_of_suc-le-suc l))
 
 -- its place in all positions
-place_reached : (ps : List Part) (ss : List Memory) → AllFit ps ss → (i : ℕ) → i < length ps → (sh : Shape) → get_or ps i Absent ≡ There sh
+place_reached : (ps : List Part) (ss : List Memory) → AllFit ps ss → (i : ℕ) → i < length ps → (sh : Shape) → get_or ps i None ≡ Some sh
     → get_or (positions_joined ps ss) (total positions_of (take i ps)) 0 ≡ (get_or ss i none).place
 unfolding AllFit total positions_joined positions_of
 place_reached [] [] h i l sh e = absurd (not-suc-le-zero l)
 place_reached [] (s ∷ ss) h i l sh e = absurd h
 place_reached (p ∷ ps) [] h i l sh e = absurd h
-place_reached (Absent ∷ ps) (s ∷ ss) h zero l sh e = absurd (let z : ◌≡◌ {A = ℕ} 0 1 = cc in omega arith)
-place_reached (There sh' ∷ ps) (s ∷ ss) h zero l sh e = refl
-place_reached (Absent ∷ ps) (s ∷ ss) h (suc i) l sh e = rw (zero-add) (place_reached ps ss h.1 i (le_of_suc-le-suc l) sh e)
-place_reached (There sh' ∷ ps) (s ∷ ss) h (suc i) l sh e =
+place_reached (None ∷ ps) (s ∷ ss) h zero l sh e = absurd (let z : ◌≡◌ {A = ℕ} 0 1 = cc in omega arith)
+place_reached (Some sh' ∷ ps) (s ∷ ss) h zero l sh e = refl
+place_reached (None ∷ ps) (s ∷ ss) h (suc i) l sh e = rw (zero-add) (place_reached ps ss h.1 i (le_of_suc-le-suc l) sh e)
+place_reached (Some sh' ∷ ps) (s ∷ ss) h (suc i) l sh e =
     let one : 1 + total positions_of (take i ps) ≡ suc (total positions_of (take i ps)) = omega arith in rw one (place_reached ps ss h.1 i (le_of_suc-le-suc l) sh e)
 
 -- the memory of a part, read from all
-read_by : (p : Part) (ps : List Part) (ss : List Memory) → AllFit ps ss → (i : ℕ) → i < length ps → get_or ps i Absent ≡ p
+read_by : (p : Part) (ps : List Part) (ss : List Memory) → AllFit ps ss → (i : ℕ) → i < length ps → get_or ps i None ≡ p
     → memory_in p (place_of (take i ps)) (histories_joined ss) (positions_joined ps ss) ≡ get_or ss i none
 unfolding memory_in place_of Fits histories_of
-read_by Absent ps ss h i l e = sym (rw e at (fit_at ps ss h i l))
-read_by (There sh) ps ss h i l e =
+read_by None ps ss h i l e = sym (rw e at (fit_at ps ss h i l))
+read_by (Some sh) ps ss h i l e =
     let a : part (total histories_of (take i ps)) (history_count sh) (histories_joined ss) ≡ (get_or ss i none).history = rw e at (history_at ps ss h i l) in
     rw (a, place_reached ps ss h i l sh e)
 
 pub read_again : (ps : List Part) (ss : List Memory) → AllFit ps ss → (i : ℕ) → i < length ps
-    → memory_in (get_or ps i Absent) (place_of (take i ps)) (histories_joined ss) (positions_joined ps ss) ≡ get_or ss i none
-read_again ps ss h i l = read_by (get_or ps i Absent) ps ss h i l refl
+    → memory_in (get_or ps i None) (place_of (take i ps)) (histories_joined ss) (positions_joined ps ss) ≡ get_or ss i none
+read_again ps ss h i l = read_by (get_or ps i None) ps ss h i l refl

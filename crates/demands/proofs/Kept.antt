@@ -1,4 +1,5 @@
 -- Every step keeps the sizes of what the stages remember. Assumes nothing.
+use Rattle.std.specs.Prelude.{None, Some}
 use mathlib.Core.Path.{◌∙◌}
 use mathlib.Core.Bool.{Bool, true, false, cond}
 use mathlib.Core.List.{List, [], ◌∷◌}
@@ -16,8 +17,7 @@ use Rattle.description.specs.Records.{array_of, layer_of}
 use Rattle.description.specs.Parts.{slots_of, rechannel_of, head_rechannel_of, site_of}
 use Rattle.description.specs.declared.records.ArrayRecord.{ArrayRecord}
 use Rattle.description.specs.declared.records.LayerRecord.{LayerRecord}
-use Rattle.description.specs.declared.parts.Part.{Part}
-use Rattle.description.specs.declared.parts.Part.TheVariants.{Absent, There}
+use Rattle.description.specs.Part.{Part}
 use Rattle.slot.specs.Steps.{pushed}
 use Rattle.layer.specs.Column.{applies, applied_site, site', conv', mixin', layer1x1', head1x1'}
 use Rattle.layer.specs.Column as column
@@ -29,11 +29,11 @@ use Rattle.demands.proofs.Sized.{Sized}
 
 pushed_fits : (p : Part) (s : Memory) (x : ℕ → Float) → Fits p s → Fits p (pushed p s x)
 unfolding Fits pushed push
-pushed_fits Absent s x h = h
-pushed_fits (There sh) s x h = length-fill _ sh.ins x s.history ∙ h
+pushed_fits None s x h = h
+pushed_fits (Some sh) s x h = length-fill _ sh.ins x s.history ∙ h
 
 -- also where the part is not applied
-pushed_if : (b : Bool) (p : Part) (s : Memory) (x : ℕ → Float) → Fits p s → Fits p (pushed (cond b p Absent) s x)
+pushed_if : (b : Bool) (p : Part) (s : Memory) (x : ℕ → Float) → Fits p s → Fits p (pushed (cond b p None) s x)
 unfolding pushed
 pushed_if true p s x h = pushed_fits p s x h
 pushed_if false p s x h = h
@@ -46,7 +46,7 @@ module _ (a : ArrayRecord) (r : LayerRecord) (weights : ℕ → List Float) (x c
   after_fits : (s : List Memory) → AllFit (slots_of a r) s → AllFit (slots_of a r) (column.after a r weights (memory_at s) x condition)
   unfolding AllFit slots_of column.after conv' mixin' layer1x1' head1x1'
   after_fits s fit =
-      let f : (j : ℕ) → j < 12 → Fits (get_or (slots_of a r) j Absent) (memory_at s j) = λ j l. fit_at (slots_of a r) s fit j l in
+      let f : (j : ℕ) → j < 12 → Fits (get_or (slots_of a r) j None) (memory_at s j) = λ j l. fit_at (slots_of a r) s fit j l in
       let g : (i : ℕ) → Fits (site_of a r i) (memory_at s (4 + i)) → Fits (site_of a r i) (site' a r weights (memory_at s) x condition i) = site_fits (memory_at s) in (
         pushed_fits _ _ _ (f 0 (omega arith)),
         (

@@ -1,4 +1,5 @@
 -- A reset leaves what stages that have heard nothing remember. Assumes nothing.
+use Rattle.std.specs.Prelude.{None, Some}
 use mathlib.Core.Path.{◌≡◌, refl, sym, ◌∙◌, ap, fun_ext}
 use mathlib.Core.List.{List, [], ◌∷◌}
 use Prim.Native.Nat.{ℕ, zero, suc, ◌+◌, ◌-◌, ◌≤◌}
@@ -15,8 +16,7 @@ use Rattle.shape.specs.Counts.{ring_length, history_count}
 use Rattle.shape.specs.declared.Shape.{Shape}
 use Rattle.description.specs.Parts.{parts_of}
 use Rattle.description.specs.Sizes.{histories_of, positions_of, total, place_of, place_at}
-use Rattle.description.specs.declared.parts.Part.{Part}
-use Rattle.description.specs.declared.parts.Part.TheVariants.{Absent, There}
+use Rattle.description.specs.Part.{Part}
 use Rattle.description.proofs.Sound.{within}
 use Rattle.slot.specs.View.{memory_in}
 use Rattle.reset.specs.Resets.{Resets, start_of, starts_of, silence_of}
@@ -27,8 +27,8 @@ use Rattle.demands.proofs.Fitting.{none}
 
 length_start : (p : Part) → length (start_of p) ≡ positions_of p
 unfolding start_of positions_of
-length_start Absent = refl
-length_start (There sh) = refl
+length_start None = refl
+length_start (Some sh) = refl
 
 length_starts : (ps : List Part) → length (starts_of ps) ≡ total positions_of ps
 unfolding starts_of total
@@ -36,13 +36,13 @@ length_starts [] = refl
 length_starts (p ∷ ps) = length-append (start_of p) (starts_of ps) ∙ rw (length_start p, length_starts ps)
 
 -- the position of part i
-start_at : (ps : List Part) (i : ℕ) (sh : Shape) → get_or ps i Absent ≡ There sh → get_or (starts_of ps) (total positions_of (take i ps)) 0 ≡ ring_length sh - 1
+start_at : (ps : List Part) (i : ℕ) (sh : Shape) → get_or ps i None ≡ Some sh → get_or (starts_of ps) (total positions_of (take i ps)) 0 ≡ ring_length sh - 1
 unfolding starts_of start_of total positions_of
 start_at [] i sh e = absurd (let z : ◌≡◌ {A = ℕ} 0 1 = cc in omega arith)
-start_at (Absent ∷ ps) zero sh e = absurd (let z : ◌≡◌ {A = ℕ} 0 1 = cc in omega arith)
-start_at (There sh' ∷ ps) zero sh e = let q : sh' ≡ sh = cc in ap (λ (s : Shape). ring_length s - 1) q
-start_at (Absent ∷ ps) (suc i) sh e = rw zero-add (start_at ps i sh e)
-start_at (There sh' ∷ ps) (suc i) sh e =
+start_at (None ∷ ps) zero sh e = absurd (let z : ◌≡◌ {A = ℕ} 0 1 = cc in omega arith)
+start_at (Some sh' ∷ ps) zero sh e = let q : sh' ≡ sh = cc in ap (λ (s : Shape). ring_length s - 1) q
+start_at (None ∷ ps) (suc i) sh e = rw zero-add (start_at ps i sh e)
+start_at (Some sh' ∷ ps) (suc i) sh e =
     let one : 1 + total positions_of (take i ps) ≡ suc (total positions_of (take i ps)) = omega arith in rw one (start_at ps i sh e)
 
 -- a part of silence
@@ -65,10 +65,10 @@ module _ (d : List ℕ) where
 
   part_by : (p : Part) (i : ℕ) → part_at d i ≡ p → memory_in p (place_at d i) zeros starts ≡ silent p
   unfolding memory_in silent part_at place_at place_of
-  part_by Absent i e = refl
-  part_by (There sh) i e = rw (start_at (parts_of d) i sh e, part-silent (total histories_of (take i (parts_of d))) (history_count sh) (total histories_of (parts_of d)) (fits i sh e))
+  part_by None i e = refl
+  part_by (Some sh) i e = rw (start_at (parts_of d) i sh e, part-silent (total histories_of (take i (parts_of d))) (history_count sh) (total histories_of (parts_of d)) (fits i sh e))
     where
-      fits : (i : ℕ) (sh : Shape) → get_or (parts_of d) i Absent ≡ There sh → total histories_of (take i (parts_of d)) + history_count sh ≤ total histories_of (parts_of d)
+      fits : (i : ℕ) (sh : Shape) → get_or (parts_of d) i None ≡ Some sh → total histories_of (take i (parts_of d)) + history_count sh ≤ total histories_of (parts_of d)
       fits i sh e = unfold histories_of in rw e at (within histories_of refl (parts_of d) i)
 
   memories_silent : (k : ℕ) → memories_of d zeros starts k ≡ silence d k

@@ -1,5 +1,6 @@
 -- What the stages of an array remember has the sizes of its parts. So histories and positions that are the stages' memories end to end, read again,
 -- are those memories. Assumes nothing.
+use Rattle.std.specs.Prelude.{None, Some}
 use mathlib.Core.Path.{◌≡◌, refl, sym, ◌∙◌, ap}
 use mathlib.Core.List.{List}
 use Prim.Native.Nat.{ℕ, ◌+◌, ◌≤◌, ◌<◌}
@@ -13,8 +14,7 @@ use Rattle.ring.specs.Memory.{Memory}
 use Rattle.shape.specs.Counts.{history_count}
 use Rattle.description.specs.Parts.{each_layer, parts_of}
 use Rattle.description.specs.Sizes.{histories_of, total, place_of, place_at}
-use Rattle.description.specs.declared.parts.Part.{Part}
-use Rattle.description.specs.declared.parts.Part.TheVariants.{Absent, There}
+use Rattle.description.specs.Part.{Part}
 use Rattle.description.specs.declared.places.Place.{Place}
 use Rattle.description.proofs.Sound.{within}
 use Rattle.slot.specs.View.{memory_in}
@@ -31,8 +31,8 @@ Sized d st = (k : ℕ) → k < stage_count d → AllFit (stage_parts d k) (st k)
 memory_fits : (p : Part) (place : Place) (histories : List Float) (positions : List ℕ) → place.histories + histories_of p ≤ length histories
     → Fits p (memory_in p place histories positions)
 unfolding Fits memory_in histories_of
-memory_fits Absent place histories positions h = refl
-memory_fits (There sh) place histories positions h = length_part place.histories (history_count sh) histories h
+memory_fits None place histories positions h = refl
+memory_fits (Some sh) place histories positions h = length_part place.histories (history_count sh) histories h
 
 part_within : (d : List ℕ) (i : ℕ) → (place_at d i).histories + histories_of (part_at d i) ≤ total histories_of (parts_of d)
 unfolding place_at place_of part_at histories_of
@@ -47,7 +47,7 @@ memories_sized d histories positions long k l =
     (λ j h. one j (rw (stage_length d k) at h))
   where
     one : (j : ℕ) → j < part_count d k
-        → Fits (get_or (stage_parts d k) j Absent) (get_or (tab (part_count d k) (λ j. memory_of_part d histories positions (first_part k + j))) j none)
+        → Fits (get_or (stage_parts d k) j None) (get_or (tab (part_count d k) (λ j. memory_of_part d histories positions (first_part k + j))) j none)
     one j h = rw (at-tab none (part_count d k) (λ j. memory_of_part d histories positions (first_part k + j)) j h, ← part_is d k j l h)
         (unfold memory_of_part in memory_fits (part_at d (first_part k + j)) (place_at d (first_part k + j)) histories positions (rw long (part_within d (first_part k + j))))
 

@@ -1,4 +1,5 @@
 -- The parts of a description, stage by stage. Assumes nothing.
+use Rattle.std.specs.Prelude.{None}
 use mathlib.Core.Path.{◌≡◌, refl, sym, ◌∙◌, ap}
 use mathlib.Core.Bool.{Bool, true, false, cond}
 use mathlib.Core.List.{List, [], ◌∷◌, ◌++◌}
@@ -12,8 +13,7 @@ use Rattle.description.specs.Records.{array_of, layer_of}
 use Rattle.description.specs.Parts.{each_layer, slots_of, parts_to, parts_of, rechannel_of, head_rechannel_of}
 use Rattle.description.specs.declared.records.ArrayRecord.{ArrayRecord}
 use Rattle.description.specs.declared.records.LayerRecord.{LayerRecord}
-use Rattle.description.specs.declared.parts.Part.{Part}
-use Rattle.description.specs.declared.parts.Part.TheVariants.{Absent}
+use Rattle.description.specs.Part.{Part}
 use Rattle.array.specs.Stages.{part_at, first_part, part_count, stage_count}
 use Rattle.demands.proofs.Fitting.{each_more, each_at}
 
@@ -66,9 +66,9 @@ module _ (d : List ℕ) where
       omega (arith, each_more f (suc k), first_at f h (suc k) (omega arith), twelve)
 
   -- part j of stage k, by its number
-  pub part_is : (k j : ℕ) → k < stage_count d → j < part_count d k → part_at d (first_part k + j) ≡ get_or (stage_parts d k) j Absent
+  pub part_is : (k j : ℕ) → k < stage_count d → j < part_count d k → part_at d (first_part k + j) ≡ get_or (stage_parts d k) j None
   unfolding part_at
   part_is k j l lt =
-      ap (λ (i : ℕ). get_or (parts_of d) (i + j) Absent) (sym (first_at (stage_parts d) (λ k l. stage_length k) k l))
-      ∙ ap (λ (ps : List Part). get_or ps (length (each_layer (stage_parts d) k) + j) Absent) (sym parts_are)
-      ∙ each_at (stage_parts d) Absent (stage_count d) k j l (rw (stage_length k) lt)
+      ap (λ (i : ℕ). get_or (parts_of d) (i + j) None) (sym (first_at (stage_parts d) (λ k l. stage_length k) k l))
+      ∙ ap (λ (ps : List Part). get_or ps (length (each_layer (stage_parts d) k) + j) None) (sym parts_are)
+      ∙ each_at (stage_parts d) None (stage_count d) k j l (rw (stage_length k) lt)

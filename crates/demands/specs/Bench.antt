@@ -1,5 +1,5 @@
 -- The bench table: each row has a name, what the definitions come to, and what document 01 says. Document 01, 'Bench table'.
-use Rattle.std.specs.Prelude.{◌≡◌, true, false, List, [], ◌∷◌, map, ℕ, Float}
+use Rattle.std.specs.Prelude.{◌≡◌, true, false, List, [], ◌∷◌, map, ℕ, Float, Some}
 use Prim.Native.String.{String}
 use Rattle.std.specs.Float.{nan, binary32}
 use Rattle.std.specs.Float.Ieee.{to_bits}
@@ -11,8 +11,7 @@ use Rattle.film.specs.Modulated.{modulated, modulation_of}
 use Rattle.description.specs.Parts.{pointwise}
 use Rattle.description.specs.Sizes.{sizes_of}
 use Rattle.description.specs.declared.answers.Sizes.{Sizes}
-use Rattle.description.specs.declared.parts.Part.{Part}
-use Rattle.description.specs.declared.parts.Part.TheVariants.{There}
+use Rattle.description.specs.Part.{Part}
 use Rattle.slot.specs.Steps.{pushed, convolved}
 use Rattle.array.specs.Refusals.{block_refusal, planned_refusal}
 use Rattle.array.specs.Calls.{histories_played, positions_played, head_played, array_played}
@@ -40,7 +39,7 @@ sizes s = s.weights ∷ s.histories ∷ s.positions ∷ s.widest ∷ s.depth ∷
 
 -- a convolution of one weight, without a bias
 abbrev single : Part
-single = There (pointwise 1 1 1 false)
+single = Some (pointwise 1 1 1 false)
 
 -- its output for one input from a reset
 abbrev convolved_once : Float → Float → Float

@@ -1,4 +1,5 @@
 -- The answers of a layer's reading and of the whole check, from what the tests told. Assumes nothing.
+use Rattle.std.specs.Prelude.{Err, Ok}
 use mathlib.Core.Path.{◌≡◌, refl, sym, ◌∙◌, ap, subst}
 use mathlib.Core.Bool.{Bool, true, false, cond, or-false, or-true}
 use mathlib.Core.List.{List, [], ◌∷◌}
@@ -17,16 +18,18 @@ use Rattle.description.specs.Parts.{head_rechannel_of, parts_of, parts_to, uneve
 use Rattle.description.specs.Sizes.{depth_of, past_of, place_of, sizes_of, widest_of}
 use Rattle.description.specs.Ranges.{LayerRanges}
 use Rattle.description.specs.Refusals.{breaks_layer, refusal_of, refused1, refused2, refused3, refused4, refused5}
-use Rattle.description.specs.Answers.{Answers, LayerAnswers, layer_number, listed, number_of, records_of, values_of}
+use Rattle.description.specs.Answers.{Answers, LayerAnswers, listed, records_of, values_of}
+use Rattle.refusal.specs.Number.{number, number_of}
+use Rattle.refusal.specs.declared.Refusal.TheVariants.{DescriptionLength, Range, Groups, Widths, TooLarge}
 use Rattle.description.specs.Tally.{answer_at, answer_of}
 use Rattle.description.specs.declared.records.LayerRecord.{LayerRecord}
 use Rattle.description.specs.declared.records.ArrayRecord.{ArrayRecord}
 use Rattle.description.specs.declared.places.Place.{Place}
 use Rattle.description.specs.declared.tally.Tally.{Tally}
 use Rattle.description.specs.declared.answers.Sizes.{Sizes}
-use Rattle.description.specs.declared.answers.Checked.{Checked}
-use Rattle.description.specs.declared.answers.Checked.TheVariants.{Refused, Sound}
-use Rattle.description.specs.declared.answers.LayerAnswer.TheVariants.{Broken, Read}
+use Rattle.description.specs.Checked.{Checked, LayerAnswer}
+use Rattle.refusal.specs.declared.Refusal.{Refusal}
+use Rattle.refusal.proofs.Named.{number_above, same_number}
 use Rattle.description.proofs.Folds.{any_append, none_below, some_below}
 use Rattle.description.proofs.Ranging.{layer_ranges}
 use Rattle.description.proofs.Passing.{depth_at, head_rechannel_even, past_one, place_reached, tally_at, uneven_at, unmatched_at, widest_at}
@@ -35,48 +38,52 @@ not_broken : {r s : LayerRecord} (b : Bool) → ◌≡◌ {A = ℕ} 0 (cond b 2 
 not_broken false n v = (refl, cc)
 not_broken true n v = absurd (omega arith)
 
+refused_broken : (b : Bool) {n : ℕ} → 0 < n → n ≡ cond b 2 0 → b ≡ true
+refused_broken true above n = refl
+refused_broken false above n = absurd (omega arith)
+
 is_broken : (b : Bool) → ◌≡◌ {A = ℕ} 2 (cond b 2 0) → b ≡ true
 is_broken true n = refl
 is_broken false n = absurd (omega arith)
 
 module _ (d : List ℕ) (l : ℕ) where
-  broken : breaks_layer d l ≡ true → LayerAnswers d l Broken
-  unfolding layer_number records_of
+  broken : breaks_layer d l ≡ true → LayerAnswers d l (Err Range)
+  unfolding number_of number records_of
   broken e = record { number = rw e; values = rw e }
 
-  pub broken_range : breaks_range layer_limits d (record_at l) ≡ true → LayerAnswers d l Broken
+  pub broken_range : breaks_range layer_limits d (record_at l) ≡ true → LayerAnswers d l (Err Range)
   unfolding breaks_layer
   broken_range e = broken (rw e)
 
-  pub broken_zeros : breaks_zero_rule d (record_at l) ≡ true → LayerAnswers d l Broken
+  pub broken_zeros : breaks_zero_rule d (record_at l) ≡ true → LayerAnswers d l (Err Range)
   unfolding breaks_layer
   broken_zeros e = broken (rw e (or-true (breaks_range layer_limits d (record_at l))))
 
-  pub whole : {r : LayerRecord} → breaks_range layer_limits d (record_at l) ≡ false → breaks_zero_rule d (record_at l) ≡ false → r ≡ layer_of d l → LayerAnswers d l (Read r)
-  unfolding breaks_layer layer_number records_of
+  pub whole : {r : LayerRecord} → breaks_range layer_limits d (record_at l) ≡ false → breaks_zero_rule d (record_at l) ≡ false → r ≡ layer_of d l → LayerAnswers d l (Ok r)
+  unfolding breaks_layer number_of number records_of
   whole e f q = record { number = rw (e, f); values = rw (e, f) (ap (λ (r : LayerRecord). r ∷ []) q) }
 
   -- and back: what an answer tells
-  pub read_whole : {r : LayerRecord} → LayerAnswers d l (Read r) → (breaks_layer d l ≡ false) × (r ≡ layer_of d l)
-  unfolding layer_number records_of
+  pub read_whole : {r : LayerRecord} → LayerAnswers d l (Ok r) → (breaks_layer d l ≡ false) × (r ≡ layer_of d l)
+  unfolding number_of number records_of
   read_whole a = not_broken (breaks_layer d l) a.number a.values
 
-  pub read_broken : LayerAnswers d l Broken → breaks_layer d l ≡ true
-  unfolding layer_number
+  pub read_broken : LayerAnswers d l (Err Range) → breaks_layer d l ≡ true
+  unfolding number_of number
   read_broken a = is_broken (breaks_layer d l) a.number
 
 -- the answer that the definitions give
 unfoldable pub checked_of : List ℕ → Checked
 checked_of d =
-    cond (refused1 d) (Refused 1)
-    (cond (refused2 d) (Refused 2)
-    (cond (refused3 d) (Refused 3) (cond (refused4 d) (Refused 4) (cond (refused5 d) (Refused 5) (Sound (sizes_of d))))))
+    cond (refused1 d) (Err DescriptionLength)
+    (cond (refused2 d) (Err Range)
+    (cond (refused3 d) (Err Groups) (cond (refused4 d) (Err Widths) (cond (refused5 d) (Err TooLarge) (Ok (sizes_of d))))))
 
 -- number and values, whatever the five tests say
 number_by : (a b c e f : Bool) (s : Sizes)
-    → number_of (cond a (Refused 1) (cond b (Refused 2) (cond c (Refused 3) (cond e (Refused 4) (cond f (Refused 5) (Sound s))))))
+    → number_of (cond a (Err DescriptionLength) (cond b (Err Range) (cond c (Err Groups) (cond e (Err Widths) (cond f (Err TooLarge) (Ok s))))))
     ≡ cond a 1 (cond b 2 (cond c 3 (cond e 4 (cond f 5 0))))
-unfolding number_of
+unfolding number_of number
 number_by true b c e f s = refl
 number_by false true c e f s = refl
 number_by false false true e f s = refl
@@ -85,7 +92,7 @@ number_by false false false false true s = refl
 number_by false false false false false s = refl
 
 values_by : (a b c e f : Bool) (s : Sizes)
-    → values_of (cond a (Refused 1) (cond b (Refused 2) (cond c (Refused 3) (cond e (Refused 4) (cond f (Refused 5) (Sound s))))))
+    → values_of (cond a (Err DescriptionLength) (cond b (Err Range) (cond c (Err Groups) (cond e (Err Widths) (cond f (Err TooLarge) (Ok s))))))
     ≡ cond (eqb (cond a 1 (cond b 2 (cond c 3 (cond e 4 (cond f 5 0))))) 0) (listed s) []
 unfolding values_of
 values_by true b c e f s = refl
@@ -107,11 +114,11 @@ pub answers_by : (d : List ℕ) {r : Checked} → r ≡ checked_of d → Answers
 answers_by d e = subst (Answers d) (sym e) (checked_answers d)
 
 -- refusal 1: too short for the head, or of another length than its L asks
-pub short : (d : List ℕ) → length d < head_length → Answers d (Refused 1)
+pub short : (d : List ℕ) → length d < head_length → Answers d (Err DescriptionLength)
 unfolding checked_of refused1
 short d lt = answers_by d (rw (lt-ltb (length d) head_length lt))
 
-pub mislaid : (d : List ℕ) → (length d ≡ record_at (layer_count d) → ⊥) → Answers d (Refused 1)
+pub mislaid : (d : List ℕ) → (length d ≡ record_at (layer_count d) → ⊥) → Answers d (Err DescriptionLength)
 unfolding checked_of refused1
 mislaid d ne = answers_by d (rw (ne_eqb (length d) (record_at (layer_count d)) ne, or-true (ltb (length d) head_length)))
 
@@ -120,14 +127,23 @@ unfolding refused1
 long_enough d le e = rw (le-ltb (length d) head_length le, eq-eqb (length d) (record_at (layer_count d)) e)
 
 -- refusal 2: a number of the array, or of a layer
-pub broken_array : (d : List ℕ) → refused1 d ≡ false → breaks_range array_limits d 0 ≡ true → Answers d (Refused 2)
+pub broken_array : (d : List ℕ) → refused1 d ≡ false → breaks_range array_limits d 0 ≡ true → Answers d (Err Range)
 unfolding checked_of refused2
 broken_array d e f = answers_by d (rw (e, f))
 
-pub broken_layer : (d : List ℕ) (l : ℕ) → refused1 d ≡ false → l < layer_count d → breaks_layer d l ≡ true → Answers d (Refused 2)
+pub broken_layer : (d : List ℕ) (l : ℕ) → refused1 d ≡ false → l < layer_count d → breaks_layer d l ≡ true → Answers d (Err Range)
 unfolding checked_of refused2
 broken_layer d l e lt f =
     answers_by d (rw (e, some_below (layer_count d) (breaks_layer d) l lt f, or-true (breaks_range array_limits d 0)))
+
+-- a layer's refusal is the description's
+pub layer_refused : (d : List ℕ) (l : ℕ) {refusal : Refusal} {r : LayerAnswer} → refused1 d ≡ false → l < layer_count d → LayerAnswers d l r → r ≡ Err refusal
+    → Answers d (Err refusal)
+unfolding number_of number
+layer_refused d l {refusal} e lt a is =
+    let number_is : number refusal ≡ cond (breaks_layer d l) 2 0 = subst (λ (x : LayerAnswer). number_of x ≡ cond (breaks_layer d l) 2 0) is a.number in
+    let b = refused_broken (breaks_layer d l) (number_above refusal) number_is in
+    subst (λ (x : Refusal). Answers d (Err x)) (same_number {r = Range} {s = refusal} (sym (rw b at number_is))) (broken_layer d l e lt b)
 
 -- a layer that is not broken, after those before it
 pub kept_more : (d : List ℕ) (l : ℕ) → any_below l (breaks_layer d) ≡ false → breaks_layer d l ≡ false → any_below (l + 1) (breaks_layer d) ≡ false

@@ -1,5 +1,8 @@
 -- The theorems on the answers of the check and of `sizes`: a number is given exactly when its test holds and no lower one, both ways; any two results
 -- agree; the values are the formulas. Assumes nothing.
+use Rattle.refusal.specs.declared.Refusal.{Refusal}
+use Rattle.refusal.proofs.Named.{named, named_number}
+use Rattle.std.specs.Prelude.{Err, Ok}
 use mathlib.Core.Path.{◌≡◌, refl, sym, ◌∙◌, ap}
 use mathlib.Core.Bool.{Bool, true, false, cond}
 use mathlib.Core.List.{List, [], ◌∷◌}
@@ -10,12 +13,12 @@ use native.Mathlib.Omega.{arith}
 use lib.Dec.{eqb}
 use lib.ListN.{get_or}
 use borrow.Author.Tests.{eq-eqb, ne_eqb}
-use Rattle.description.specs.Answers.{Answers, listed, number_of, values_of}
+use Rattle.description.specs.Answers.{Answers, listed, values_of}
+use Rattle.refusal.specs.Number.{number, number_of}
 use Rattle.description.specs.Refusals.{refusal_of, refused1, refused2, refused3, refused4, refused5}
 use Rattle.description.specs.Sizes.{sizes_of}
 use Rattle.description.specs.declared.answers.Sizes.{Sizes}
-use Rattle.description.specs.declared.answers.Checked.{Checked}
-use Rattle.description.specs.declared.answers.Checked.TheVariants.{Refused, Sound}
+use Rattle.description.specs.Checked.{Checked}
 
 -- test k holds, and none before it
 pub record First (tests : List Bool) (k : ℕ) : Type 0 where
@@ -132,18 +135,18 @@ no_values : (b : Bool) (s : Sizes) → [] ≡ cond b (listed s) [] → b ≡ fal
 no_values false s e = refl
 no_values true s e = absurd (empty s e)
 
-sound_of : {s t : Sizes} → Sound s ≡ Sound t → s ≡ t
+sound_of : {s t : Sizes} → ◌≡◌ {A = Checked} (Ok s) (Ok t) → s ≡ t
 sound_of e = cc
 
 -- what the answer has to be
-answer_by : (b : Bool) (n : ℕ) (s : Sizes) (r : Checked) → number_of r ≡ n → values_of r ≡ cond b (listed s) [] → r ≡ cond b (Sound s) (Refused n)
+answer_by : (b : Bool) (n : ℕ) (s : Sizes) (r : Checked) → number_of r ≡ n → values_of r ≡ cond b (listed s) [] → r ≡ cond b (Ok s) (Err (named n))
 unfolding number_of values_of
-answer_by true n s (Refused m) e v = absurd (empty s v)
-answer_by true n s (Sound t) e v = ap Sound (same_sizes t s v)
-answer_by false n s (Refused m) e v = ap Refused e
-answer_by false n s (Sound t) e v = absurd (empty t (sym v))
+answer_by true n s (Err m) e v = absurd (empty s v)
+answer_by true n s (Ok t) e v = ap Ok (same_sizes t s v)
+answer_by false n s (Err m) e v = ap Err (sym (named_number m) ∙ ap named e)
+answer_by false n s (Ok t) e v = absurd (empty t (sym v))
 
-pub answer_is : (d : List ℕ) {r : Checked} → Answers d r → r ≡ cond (eqb (refusal_of d) 0) (Sound (sizes_of d)) (Refused (refusal_of d))
+pub answer_is : (d : List ℕ) {r : Checked} → Answers d r → r ≡ cond (eqb (refusal_of d) 0) (Ok (sizes_of d)) (Err (named (refusal_of d)))
 answer_is d {r} a = answer_by (eqb (refusal_of d) 0) (refusal_of d) (sizes_of d) r a.number a.values
 
 -- any two results that meet the contract agree
@@ -151,17 +154,17 @@ pub answers_agree : (d : List ℕ) {r s : Checked} → Answers d r → Answers d
 answers_agree d a b = answer_is d a ∙ sym (answer_is d b)
 
 -- where nothing is refused the values are the formulas, and where something is, there are none
-pub sizes_are : (d : List ℕ) {r : Checked} → Answers d r → refusal_of d ≡ 0 → r ≡ Sound (sizes_of d)
+pub sizes_are : (d : List ℕ) {r : Checked} → Answers d r → refusal_of d ≡ 0 → r ≡ Ok (sizes_of d)
 sizes_are d a e = rw (eq-eqb (refusal_of d) 0 e) at (answer_is d a)
 
-pub refusal_is : (d : List ℕ) {r : Checked} → Answers d r → (refusal_of d ≡ 0 → ⊥) → r ≡ Refused (refusal_of d)
+pub refusal_is : (d : List ℕ) {r : Checked} → Answers d r → (refusal_of d ≡ 0 → ⊥) → r ≡ Err (named (refusal_of d))
 refusal_is d a ne = rw (ne_eqb (refusal_of d) 0 ne) at (answer_is d a)
 
 -- and back: sizes are handed back of what is not refused, and they are the formulas
-pub sound_only : (d : List ℕ) {s : Sizes} → Answers d (Sound s) → (refusal_of d ≡ 0) × (s ≡ sizes_of d)
+pub sound_only : (d : List ℕ) {s : Sizes} → Answers d (Ok s) → (refusal_of d ≡ 0) × (s ≡ sizes_of d)
 unfolding number_of
 sound_only d {s} a = let z = sym a.number in (z, sound_of (sizes_are d a z))
 
-pub refused_only : (d : List ℕ) {n : ℕ} → Answers d (Refused n) → (n ≡ refusal_of d) × (eqb (refusal_of d) 0 ≡ false)
+pub refused_only : (d : List ℕ) {refusal : Refusal} → Answers d (Err refusal) → (number refusal ≡ refusal_of d) × (eqb (refusal_of d) 0 ≡ false)
 unfolding number_of values_of
 refused_only d a = (a.number, no_values (eqb (refusal_of d) 0) (sizes_of d) a.values)

@@ -1,4 +1,6 @@
 -- The pass over a description: its tally after each layer, in closed form. Assumes nothing.
+use Rattle.refusal.specs.declared.Refusal.TheVariants.{TooLarge}
+use Rattle.std.specs.Prelude.{Err, Ok}
 use mathlib.Core.Path.{◌≡◌, refl, sym, ◌∙◌, ap, subst}
 use mathlib.Core.Bool.{Bool, true, false, not, ◌||◌}
 use mathlib.Core.List.{List, [], ◌∷◌, ◌++◌}
@@ -16,11 +18,10 @@ use Rattle.description.specs.Tally.{LowTally, answer_at, count_all, past_all, st
 use Rattle.description.specs.Tests.{any, any_below}
 use Rattle.description.specs.declared.records.ArrayRecord.{ArrayRecord}
 use Rattle.description.specs.declared.records.LayerRecord.{LayerRecord}
-use Rattle.description.specs.declared.parts.Part.{Part}
+use Rattle.description.specs.Part.{Part}
 use Rattle.description.specs.declared.places.Place.{Place}
 use Rattle.description.specs.declared.tally.Counted.{Counted}
 use Rattle.description.specs.declared.tally.Tally.{Tally}
-use Rattle.description.specs.declared.answers.Checked.TheVariants.{Refused, Sound}
 use Rattle.description.proofs.Folds.{any_append}
 use Rattle.description.proofs.Slots.{rechannel_fits, slot_fits}
 use Rattle.description.proofs.Totals.{histories_le, low_on, past-low_all, positions_le, total-append, total_one, weights_le}
@@ -79,12 +80,12 @@ reach_le {r} f = mul-le-mul {n₁ = r.kernel - 1} {m₁ = r.dilation} {n₂ = 15
 
 -- what the code's two last ways answer
 pub too_many : (t : Tally) (place : Place) → t.counted.uneven ≡ false → t.unmatched ≡ false → (ltb most place.weights || ltb most place.histories) ≡ true
-    → Refused 5 ≡ answer_at t place
+    → Err TooLarge ≡ answer_at t place
 unfolding answer_at
 too_many t place e f g = rw (e, f, g)
 
 pub sound : (t : Tally) (place : Place) → t.counted.uneven ≡ false → t.unmatched ≡ false → (ltb most place.weights || ltb most place.histories) ≡ false
-    → Sound (record { weights = place.weights; histories = place.histories; positions = place.positions; widest = t.widest; depth = t.depth })
+    → Ok (record { weights = place.weights; histories = place.histories; positions = place.positions; widest = t.widest; depth = t.depth })
     ≡ answer_at t place
 unfolding answer_at
 sound t place e f g = rw (e, f, g)

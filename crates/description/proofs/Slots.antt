@@ -1,4 +1,5 @@
 -- The parts of records in range: each has a shape in range, and the slots are those of the definitions. Assumes nothing.
+use Rattle.std.specs.Prelude.{None, Some}
 use mathlib.Core.Path.{◌≡◌, refl, sym, ◌∙◌, ap, subst}
 use mathlib.Core.Bool.{Bool, true, false, cond}
 use mathlib.Core.Logic.{⊎_elim}
@@ -17,18 +18,17 @@ use Rattle.description.specs.Ranges.{ArrayRanges, Between, Fits, LayerRanges}
 use Rattle.description.specs.ZeroRules.{bit}
 use Rattle.description.specs.declared.records.ArrayRecord.{ArrayRecord}
 use Rattle.description.specs.declared.records.LayerRecord.{LayerRecord}
-use Rattle.description.specs.declared.parts.Part.TheVariants.{Absent, There}
 
-pub shape_of : {s t : Shape} → There s ≡ There t → s ≡ t
+pub shape_of : {s t : Shape} → Some s ≡ Some t → s ≡ t
 shape_of e = cc
 
-pub not_absent : {P : Type 0} {t : Shape} → Absent ≡ There t → P
+pub not_absent : {P : Type 0} {t : Shape} → None ≡ Some t → P
 not_absent e = absurd (let z : ◌≡◌ {A = ℕ} 0 1 = cc in omega arith)
 
-pub fits_there : {s : Shape} → InRange s → Fits (There s)
+pub fits_there : {s : Shape} → InRange s → Fits (Some s)
 fits_there f = record { shape = λ sh e. subst InRange (shape_of e) f }
 
-pub fits_absent : Fits Absent
+pub fits_absent : Fits None
 fits_absent = record { shape = λ sh e. not_absent e }
 
 fits_unless0 : (n : ℕ) (s : Shape) → (1 ≤ n → InRange s) → Fits (unless0 n s)
@@ -191,7 +191,7 @@ pub doubled_le : (w x : ℕ) → w ≤ 64 → w * (1 + x % 2) ≤ 128
 doubled_le w x h = mul-le-mul {n₁ = w} {m₁ = 1 + x % 2} {n₂ = 64} {m₂ = 2} h (omega (arith, mod-lt x {m = 2} (omega arith)))
 
 pub site_there : (a : ArrayRecord) (r : LayerRecord) (i g w : ℕ) → g ≡ site_groups r.sites i → (g ≡ 0 → ⊥) → w ≡ site_width a r i
-    → There (pointwise a.condition (w * (1 + r.shift_bits / 2 ^ i % 2)) g true) ≡ site_of a r i
+    → Some (pointwise a.condition (w * (1 + r.shift_bits / 2 ^ i % 2)) g true) ≡ site_of a r i
 unfolding site_of unless0
 site_there a r i g w eg ne ew =
     rw (ne_eqb (site_groups r.sites i) 0 (λ z. ne (eg ∙ z)), eg, ew, one_or_two (r.shift_bits / 2 ^ i % 2) (mod-lt _ {m = 2} (omega arith)))

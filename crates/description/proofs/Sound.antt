@@ -1,4 +1,5 @@
 -- What holds of a description that the check lets through: what the crates above rest on. Assumes nothing.
+use Rattle.std.specs.Prelude.{None, Some}
 use mathlib.Core.Path.{◌≡◌, refl, sym, ◌∙◌, ap, subst}
 use mathlib.Core.Bool.{Bool, true, false, cond, not, ◌&&◌}
 use mathlib.Core.List.{List, [], ◌∷◌, ◌++◌}
@@ -21,15 +22,14 @@ use Rattle.description.specs.Sizes.{array_widths, histories_of, largest, layer_w
 use Rattle.description.specs.Ranges.{ArrayRanges, Between, Fits, LayerRanges}
 use Rattle.description.specs.Refusals.{breaks_layer, head_width, most, refusal_of, refused1, refused2, refused3, refused4, refused5, unmatched_of}
 use Rattle.description.specs.declared.records.ArrayRecord.{ArrayRecord}
-use Rattle.description.specs.declared.parts.Part.{Part}
-use Rattle.description.specs.declared.parts.Part.TheVariants.{Absent, There}
+use Rattle.description.specs.Part.{Part}
 use Rattle.description.proofs.Folds.{each_at, left_false, length_each, none_below, none_of, right_false}
 use Rattle.description.proofs.Passing.{largest-append, past_one}
 use Rattle.description.proofs.Ranging.{array_ranges, layer_ranges, layers_between}
 use Rattle.description.proofs.Totals.{total_le}
 use Rattle.description.proofs.Slots.{fits_absent, head_rechannel_fits, mid_range, rechannel_fits, slot_fits}
 
-get_d_one : (p : Part) (ps : List Part) (i : ℕ) → get_or (p ∷ ps) (1 + i) Absent ≡ get_or ps i Absent
+get_d_one : (p : Part) (ps : List Part) (i : ℕ) → get_or (p ∷ ps) (1 + i) None ≡ get_or ps i None
 get_d_one p ps i = rw (add_comm 1 i, add-one)
 
 -- the list of parts by number, refused or not
@@ -50,41 +50,41 @@ module _ (d : List ℕ) where
   length-parts =
       length-append (parts_to d (layer_count d)) (head_rechannel_of (array_of d) ∷ []) ∙ rw (length_to (layer_count d)) (omega arith)
 
-  pub part_first : get_or (parts_of d) 0 Absent ≡ rechannel_of (array_of d)
+  pub part_first : get_or (parts_of d) 0 None ≡ rechannel_of (array_of d)
   unfolding parts_of parts_to
   part_first = refl
 
-  pub part_slot : (l k : ℕ) → l < layer_count d → k < 12 → get_or (parts_of d) (1 + (12 * l + k)) Absent ≡ part_of (array_of d) (layer_of d l) k
+  pub part_slot : (l k : ℕ) → l < layer_count d → k < 12 → get_or (parts_of d) (1 + (12 * l + k)) None ≡ part_of (array_of d) (layer_of d l) k
   unfolding parts_of parts_to part_of slots
   part_slot l k lt kt =
       let inner : 12 * l + k < length (each_layer slots (layer_count d)) = rw (length_each slots 12 twelve (layer_count d)) (omega arith) in
       get_d_one (rechannel_of (array_of d)) (each_layer slots (layer_count d) ++ head_rechannel_of (array_of d) ∷ []) (12 * l + k)
-      ∙ get_or-append (each_layer slots (layer_count d)) (head_rechannel_of (array_of d) ∷ []) Absent (12 * l + k) inner
-      ∙ each_at slots 12 twelve Absent (layer_count d) l k lt kt
+      ∙ get_or-append (each_layer slots (layer_count d)) (head_rechannel_of (array_of d) ∷ []) None (12 * l + k) inner
+      ∙ each_at slots 12 twelve None (layer_count d) l k lt kt
 
-  pub part_last : get_or (parts_of d) (12 * layer_count d + 1) Absent ≡ head_rechannel_of (array_of d)
+  pub part_last : get_or (parts_of d) (12 * layer_count d + 1) None ≡ head_rechannel_of (array_of d)
   unfolding parts_of
   part_last =
-      rw (← length_to (layer_count d)) (get_or-append_seam (parts_to d (layer_count d)) (head_rechannel_of (array_of d)) [] Absent)
+      rw (← length_to (layer_count d)) (get_or-append_seam (parts_to d (layer_count d)) (head_rechannel_of (array_of d)) [] None)
 
   -- the same by the number alone
-  pub number_first : (i : ℕ) → i ≡ 0 → rechannel_of (array_of d) ≡ get_or (parts_of d) i Absent
-  number_first i z = sym part_first ∙ ap (λ (i : ℕ). get_or (parts_of d) i Absent) (sym z)
+  pub number_first : (i : ℕ) → i ≡ 0 → rechannel_of (array_of d) ≡ get_or (parts_of d) i None
+  number_first i z = sym part_first ∙ ap (λ (i : ℕ). get_or (parts_of d) i None) (sym z)
 
   pub number_slot : (i : ℕ) → (i ≡ 0 → ⊥) → ((i - 1) / 12 ≡ layer_count d → ⊥) → i < 12 * layer_count d + 2
-      → part_of (array_of d) (layer_of d ((i - 1) / 12)) ((i - 1) % 12) ≡ get_or (parts_of d) i Absent
+      → part_of (array_of d) (layer_of d ((i - 1) / 12)) ((i - 1) % 12) ≡ get_or (parts_of d) i None
   number_slot i nz nl lt =
       let e : 1 + (12 * ((i - 1) / 12) + (i - 1) % 12) ≡ i = omega arith in
-      sym (part_slot ((i - 1) / 12) ((i - 1) % 12) (omega arith) (omega arith)) ∙ ap (λ (i : ℕ). get_or (parts_of d) i Absent) e
+      sym (part_slot ((i - 1) / 12) ((i - 1) % 12) (omega arith) (omega arith)) ∙ ap (λ (i : ℕ). get_or (parts_of d) i None) e
 
-  pub number_last : (i : ℕ) → (i ≡ 0 → ⊥) → (i - 1) / 12 ≡ layer_count d → i < 12 * layer_count d + 2 → head_rechannel_of (array_of d) ≡ get_or (parts_of d) i Absent
+  pub number_last : (i : ℕ) → (i ≡ 0 → ⊥) → (i - 1) / 12 ≡ layer_count d → i < 12 * layer_count d + 2 → head_rechannel_of (array_of d) ≡ get_or (parts_of d) i None
   number_last i nz l lt =
-      let e : 12 * layer_count d + 1 ≡ i = omega arith in sym part_last ∙ ap (λ (i : ℕ). get_or (parts_of d) i Absent) e
+      let e : 12 * layer_count d + 1 ≡ i = omega arith in sym part_last ∙ ap (λ (i : ℕ). get_or (parts_of d) i None) e
 
   -- the place of the next part is the place past this one
-  pub place_next : (i : ℕ) → i < length (parts_of d) → place_at d (i + 1) ≡ past_of (place_at d i) (get_or (parts_of d) i Absent)
+  pub place_next : (i : ℕ) → i < length (parts_of d) → place_at d (i + 1) ≡ past_of (place_at d i) (get_or (parts_of d) i None)
   unfolding place_at
-  place_next i lt = rw (add-one, take-suc (parts_of d) i Absent lt) (sym (past_one (take i (parts_of d)) (get_or (parts_of d) i Absent)))
+  place_next i lt = rw (add-one, take-suc (parts_of d) i None lt) (sym (past_one (take i (parts_of d)) (get_or (parts_of d) i None)))
 
 when_true : {a b : Bool} → a ≡ true → (a && b) ≡ false → b ≡ false
 when_true {a} {b} e f = rw e at f
@@ -106,10 +106,10 @@ passed false false false true f z = absurd (omega arith)
 passed false false false false true z = absurd (omega arith)
 
 -- groups of a part that is not uneven divide both sides
-pub even_divided : {p : Part} {sh : Shape} → uneven_of p ≡ false → p ≡ There sh → Divided sh
+pub even_divided : {p : Part} {sh : Shape} → uneven_of p ≡ false → p ≡ Some sh → Divided sh
 unfolding uneven_of
 even_divided {p} {sh} e q =
-    let h : uneven_of (There sh) ≡ false = subst (λ (p : Part). uneven_of p ≡ false) q e in
+    let h : uneven_of (Some sh) ≡ false = subst (λ (p : Part). uneven_of p ≡ false) q e in
     record {
       ins_whole = eqb-true (sh.ins % sh.groups) 0 (not-false (eqb (sh.ins % sh.groups) 0) (left_false (not (eqb (sh.ins % sh.groups) 0)) (not (eqb (sh.outs % sh.groups) 0)) h));
       outs_whole = eqb-true (sh.outs % sh.groups) 0 (not-false (eqb (sh.outs % sh.groups) 0) (right_false (not (eqb (sh.ins % sh.groups) 0)) (not (eqb (sh.outs % sh.groups) 0)) h));
@@ -128,7 +128,7 @@ nothing f zero = refl
 nothing f (suc i) = refl
 
 -- the part at a number with those before it counts no more than all
-pub within : (f : Part → ℕ) → f Absent ≡ 0 → (ps : List Part) (i : ℕ) → total f (take i ps) + f (get_or ps i Absent) ≤ total f ps
+pub within : (f : Part → ℕ) → f None ≡ 0 → (ps : List Part) (i : ℕ) → total f (take i ps) + f (get_or ps i None) ≤ total f ps
 unfolding total
 within f z [] i = omega (arith, nothing f i, z)
 within f z (p ∷ ps) zero = omega arith
@@ -140,12 +140,12 @@ none-largest = omega arith
 
 at_most_one : (p : Part) → positions_of p ≤ 1
 unfolding positions_of
-at_most_one Absent = omega arith
-at_most_one (There sh) = omega arith
+at_most_one None = omega arith
+at_most_one (Some sh) = omega arith
 
 -- every part of a list fits
 abbrev AllFit : List Part → Type 0
-AllFit ps = (i : ℕ) → Fits (get_or ps i Absent)
+AllFit ps = (i : ℕ) → Fits (get_or ps i None)
 
 both_fit : (xs ys : List Part) → AllFit xs → AllFit ys → AllFit (xs ++ ys)
 both_fit [] ys f g i = g i
@@ -193,14 +193,14 @@ module _ (d : List ℕ) (ok : refusal_of d ≡ 0) where
   pub slot_in_range : (l k : ℕ) → l < layer_count d → Fits (part_of (array_of d) (layer_of d l) k)
   slot_in_range l k lt = slot_fits array_in_range (layer_in_range l lt) k
 
-  pub part_even : (i : ℕ) → uneven_of (get_or (parts_of d) i Absent) ≡ false
+  pub part_even : (i : ℕ) → uneven_of (get_or (parts_of d) i None) ≡ false
   unfolding refused3 uneven_of
-  part_even i = none_of uneven_of Absent (parts_of d) tests.third refl i
+  part_even i = none_of uneven_of None (parts_of d) tests.third refl i
 
-  pub part_divided : (i : ℕ) {sh : Shape} → get_or (parts_of d) i Absent ≡ There sh → Divided sh
+  pub part_divided : (i : ℕ) {sh : Shape} → get_or (parts_of d) i None ≡ Some sh → Divided sh
   part_divided i e = even_divided (part_even i) e
 
-  pub part_in_range : (i : ℕ) → Fits (get_or (parts_of d) i Absent)
+  pub part_in_range : (i : ℕ) → Fits (get_or (parts_of d) i None)
   unfolding parts_of parts_to slots_of part_of
   part_in_range =
       both_fit (parts_to d (layer_count d)) (head_rechannel_of (array_of d) ∷ [])
@@ -300,15 +300,15 @@ module _ (d : List ℕ) (ok : refusal_of d ≡ 0) where
   widest_least = omega (arith, array_width_le 0, array_in_range.input.least)
 
   -- each part's numbers lie within the whole, and the whole is no more than 1,048,576
-  pub weights_within : (i : ℕ) → (place_at d i).weights + weights_of (get_or (parts_of d) i Absent) ≤ total weights_of (parts_of d)
+  pub weights_within : (i : ℕ) → (place_at d i).weights + weights_of (get_or (parts_of d) i None) ≤ total weights_of (parts_of d)
   unfolding place_at place_of weights_of
   weights_within i = within weights_of refl (parts_of d) i
 
-  pub histories_within : (i : ℕ) → (place_at d i).histories + histories_of (get_or (parts_of d) i Absent) ≤ total histories_of (parts_of d)
+  pub histories_within : (i : ℕ) → (place_at d i).histories + histories_of (get_or (parts_of d) i None) ≤ total histories_of (parts_of d)
   unfolding place_at place_of histories_of
   histories_within i = within histories_of refl (parts_of d) i
 
-  pub positions_within : (i : ℕ) → (place_at d i).positions + positions_of (get_or (parts_of d) i Absent) ≤ total positions_of (parts_of d)
+  pub positions_within : (i : ℕ) → (place_at d i).positions + positions_of (get_or (parts_of d) i None) ≤ total positions_of (parts_of d)
   unfolding place_at place_of positions_of
   positions_within i = within positions_of refl (parts_of d) i
 
@@ -324,7 +324,7 @@ module _ (d : List ℕ) (ok : refusal_of d ≡ 0) where
 
   pub positions_most : total positions_of (parts_of d) ≤ 290
   unfolding positions_of
-  positions_most = omega (arith, total_le positions_of 1 (parts_of d) (λ i. at_most_one (get_or (parts_of d) i Absent)), length-parts d, layers_are.most)
+  positions_most = omega (arith, total_le positions_of 1 (parts_of d) (λ i. at_most_one (get_or (parts_of d) i None)), length-parts d, layers_are.most)
 
 -- the code's a, and its count of layers
 pub layers_of : (d : List ℕ) {a : ArrayRecord} → a ≡ array_of d → a.layers ≡ layer_count d

@@ -1,6 +1,8 @@
 pub mod Answers
+pub mod Checked
 pub mod Limits
 pub mod Numbers
+pub mod Part
 pub mod Parts
 pub mod Ranges
 pub mod Records

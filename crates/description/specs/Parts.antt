@@ -1,5 +1,5 @@
 -- The parts of a description: its convolutions, in one list. Document 01, 'Description' (mid, FiLM sites and widths, order of convolutions).
-use Rattle.std.specs.Prelude.{List, [], ◌∷◌, ◌++◌, Bool, true, false, cond, not, ◌||◌, ℕ, zero, suc, ◌*◌, ◌%◌, eqb, get_or}
+use Rattle.std.specs.Prelude.{List, [], ◌∷◌, ◌++◌, Bool, true, false, cond, not, ◌||◌, ℕ, zero, suc, ◌*◌, ◌%◌, eqb, get_or, None, Some}
 use Rattle.shape.specs.declared.Shape.{Shape}
 use Rattle.gating.specs.Joined.{input_rows}
 use Rattle.description.specs.Numbers.{layer_count}
@@ -8,8 +8,7 @@ use Rattle.description.specs.Records.{array_of, layer_of}
 use Rattle.description.specs.declared.records.ArrayRecord.{ArrayRecord}
 use Rattle.description.specs.declared.records.LayerRecord.{LayerRecord}
 use Rattle.description.specs.declared.records.Sites.{Sites}
-use Rattle.description.specs.declared.parts.Part.{Part}
-use Rattle.description.specs.declared.parts.Part.TheVariants.{Absent, There}
+use Rattle.description.specs.Part.{Part}
 
 -- mid = bottleneck in mode None, else twice that
 unfoldable pub mid : LayerRecord → ℕ
@@ -17,7 +16,7 @@ mid r = input_rows r.mode r.bottleneck
 
 -- a part that a 0 makes absent
 unfoldable pub unless0 : ℕ → Shape → Part
-unless0 n sh = cond (eqb n 0) Absent (There sh)
+unless0 n sh = cond (eqb n 0) None (Some sh)
 
 -- kernel 1
 abbrev pub pointwise : ℕ → ℕ → ℕ → Bool → Shape
@@ -41,21 +40,21 @@ site_groups s i =
 
 module _ (a : ArrayRecord) where
   unfoldable pub rechannel_of : Part
-  rechannel_of = There (pointwise a.input a.channels 1 false)
+  rechannel_of = Some (pointwise a.input a.channels 1 false)
 
   unfoldable pub head_rechannel_of : Part
   head_rechannel_of =
-      There
+      Some
       (record { ins = a.head_in; outs = a.head_size; kernel = a.head_kernel; dilation = 1; groups = 1; biased = a.head_bias })
 
 module _ (a : ArrayRecord) (r : LayerRecord) where
   unfoldable pub conv_of : Part
   conv_of =
-      There
+      Some
       (record { ins = a.channels; outs = mid r; kernel = r.kernel; dilation = r.dilation; groups = r.conv_groups; biased = true })
 
   unfoldable pub mixin_of : Part
-  mixin_of = There (pointwise a.condition (mid r) r.mixin_groups false)
+  mixin_of = Some (pointwise a.condition (mid r) r.mixin_groups false)
 
   unfoldable pub layer1x1_of : Part
   layer1x1_of = unless0 r.layer1x1_groups (pointwise r.bottleneck a.channels r.layer1x1_groups r.layer1x1_bias)
@@ -103,7 +102,7 @@ module _ (a : ArrayRecord) (r : LayerRecord) where
 
   -- slot k of a layer
   unfoldable pub part_of : ℕ → Part
-  part_of k = get_or slots_of k Absent
+  part_of k = get_or slots_of k None
 
 -- what each of the layers below n has, end to end
 unfoldable pub each_layer : {A : Type 0} → (ℕ → List A) → ℕ → List A
@@ -120,5 +119,5 @@ parts_of d = parts_to d (layer_count d) ++ head_rechannel_of (array_of d) ∷ []
 
 -- groups don't divide both sides of their convolution
 unfoldable pub uneven_of : Part → Bool
-uneven_of Absent = false
-uneven_of (There sh) = not (eqb (sh.ins % sh.groups) 0) || not (eqb (sh.outs % sh.groups) 0)
+uneven_of None = false
+uneven_of (Some sh) = not (eqb (sh.ins % sh.groups) 0) || not (eqb (sh.outs % sh.groups) 0)

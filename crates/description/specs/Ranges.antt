@@ -1,12 +1,11 @@
 -- What the ranges and zero rules leave of the records and of a part: what the functions inside `check` ask of their callers. Document 01, 'Description'.
-use Rattle.std.specs.Prelude.{◌≡◌, ℕ, ◌≤◌}
+use Rattle.std.specs.Prelude.{◌≡◌, ℕ, ◌≤◌, Some}
 use Rattle.shape.specs.declared.Shape.{Shape}
 use Rattle.shape.specs.Counts.{InRange}
 use Rattle.description.specs.Parts.{site_groups}
 use Rattle.description.specs.declared.records.ArrayRecord.{ArrayRecord}
 use Rattle.description.specs.declared.records.LayerRecord.{LayerRecord}
-use Rattle.description.specs.declared.parts.Part.{Part}
-use Rattle.description.specs.declared.parts.Part.TheVariants.{There}
+use Rattle.description.specs.Part.{Part}
 use Rattle.description.specs.declared.places.Place.{Place}
 
 -- n lies between two limits
@@ -37,7 +36,7 @@ pub record LayerRanges (r : LayerRecord) : Type 0 where
 
 -- a part that is there has a shape in range
 pub record Fits (p : Part) : Type 0 where
-  pub shape : (sh : Shape) → p ≡ There sh → InRange sh
+  pub shape : (sh : Shape) → p ≡ Some sh → InRange sh
 
 -- a place no higher than a bound
 pub record Low (bound : ℕ) (place : Place) : Type 0 where

@@ -1,28 +1,27 @@
 -- What follows from the parts: counts, offsets, W, the memory depth. Document 01, 'Description' (the last paragraph).
-use Rattle.std.specs.Prelude.{List, [], ◌∷◌, ◌++◌, ℕ, zero, suc, ◌+◌, ◌-◌, ◌*◌, max, take}
+use Rattle.std.specs.Prelude.{List, [], ◌∷◌, ◌++◌, ℕ, zero, suc, ◌+◌, ◌-◌, ◌*◌, max, take, None, Some}
 use Rattle.shape.specs.Counts.{history_count, weight_count}
 use Rattle.description.specs.Numbers.{layer_count}
 use Rattle.description.specs.Records.{array_of, layer_of}
 use Rattle.description.specs.Parts.{each_layer, mid, parts_of}
 use Rattle.description.specs.declared.records.ArrayRecord.{ArrayRecord}
 use Rattle.description.specs.declared.records.LayerRecord.{LayerRecord}
-use Rattle.description.specs.declared.parts.Part.{Part}
-use Rattle.description.specs.declared.parts.Part.TheVariants.{Absent, There}
+use Rattle.description.specs.Part.{Part}
 use Rattle.description.specs.declared.places.Place.{Place}
 use Rattle.description.specs.declared.answers.Sizes.{Sizes}
 
 unfoldable pub weights_of : Part → ℕ
-weights_of Absent = 0
-weights_of (There sh) = weight_count sh
+weights_of None = 0
+weights_of (Some sh) = weight_count sh
 
 unfoldable pub histories_of : Part → ℕ
-histories_of Absent = 0
-histories_of (There sh) = history_count sh
+histories_of None = 0
+histories_of (Some sh) = history_count sh
 
 -- positions: one each
 unfoldable pub positions_of : Part → ℕ
-positions_of Absent = 0
-positions_of (There sh) = 1
+positions_of None = 0
+positions_of (Some sh) = 1
 
 unfoldable pub total : (Part → ℕ) → List Part → ℕ
 total f [] = 0

@@ -1,6 +1,6 @@
 -- What one pass over a description adds up, layer by layer, and the answer that follows from it: for the contracts of the functions inside `check`,
 -- whose own promise (Answers) does not rest on it.
-use Rattle.std.specs.Prelude.{List, [], ◌∷◌, false, cond, ◌||◌, ◌+◌, ◌≤◌, max, ltb}
+use Rattle.std.specs.Prelude.{List, [], ◌∷◌, false, cond, ◌||◌, ◌+◌, ◌≤◌, max, ltb, Err, Ok}
 use Rattle.description.specs.Tests.{any}
 use Rattle.description.specs.Parts.{head_rechannel_of, rechannel_of, slots_of, uneven_of}
 use Rattle.description.specs.Sizes.{array_widths, histories_of, largest, layer_widths, past_of, place_of, positions_of, reach, total, weights_of}
@@ -8,10 +8,10 @@ use Rattle.description.specs.Refusals.{most, unmatched_of}
 use Rattle.description.specs.Ranges.{Low}
 use Rattle.description.specs.declared.records.ArrayRecord.{ArrayRecord}
 use Rattle.description.specs.declared.records.LayerRecord.{LayerRecord}
-use Rattle.description.specs.declared.parts.Part.{Part}
+use Rattle.description.specs.Part.{Part}
 use Rattle.description.specs.declared.places.Place.{Place}
-use Rattle.description.specs.declared.answers.Checked.{Checked}
-use Rattle.description.specs.declared.answers.Checked.TheVariants.{Refused, Sound}
+use Rattle.description.specs.Checked.{Checked}
+use Rattle.refusal.specs.declared.Refusal.TheVariants.{Groups, Widths, TooLarge}
 use Rattle.description.specs.declared.tally.Counted.{Counted}
 use Rattle.description.specs.declared.tally.Tally.{Tally}
 
@@ -55,10 +55,10 @@ pub record LowTally (t : Tally) : Type 0 where
 -- the answer, where the parts end at a place
 unfoldable pub answer_at : Tally → Place → Checked
 answer_at t place =
-    cond t.counted.uneven (Refused 3)
-    (cond t.unmatched (Refused 4)
-    (cond (ltb most place.weights || ltb most place.histories) (Refused 5)
-    (Sound
+    cond t.counted.uneven (Err Groups)
+    (cond t.unmatched (Err Widths)
+    (cond (ltb most place.weights || ltb most place.histories) (Err TooLarge)
+    (Ok
     (record {
       weights = place.weights;
       histories = place.histories;

@@ -1,25 +1,20 @@
-// The parts that records ask for: the shapes of their convolutions. Carries the fields of layer.rs and array.rs, with an absent `Option` as an absent part.
+// The parts that records ask for: the shapes of their convolutions. Carries the fields of layer.rs and array.rs, with an absent `Option` as `None`.
 // Document 01, 'Description' (mid, FiLM sites and widths, order of convolutions).
-ghost use Rattle.std.specs.Prelude.{◌≡◌, ◌<◌};
+ghost use Rattle.std.specs.Prelude.{◌≡◌, ◌<◌, Some};
 ghost use Rattle.description.specs.Parts.{conv_of, head1x1_of, head_rechannel_of, layer1x1_of, mid, mixin_of, part_of, rechannel_of, site_groups, site_of, site_width, uneven_of};
 ghost use Rattle.shape.specs.Counts.{InRange};
-ghost use Rattle.description.specs.declared.parts.Part.TheVariants.{There};
 ghost use Rattle.description.specs.Ranges.{ArrayRanges, Fits, LayerRanges};
 
 use crate::records::{ArrayRecord, LayerRecord, Sites};
 use shape::Shape;
 
-// A slot of the list of parts.
-#[derive(Clone, Copy)]
-pub enum Part {
-    Absent,
-    There(Shape),
-}
+// A slot of the list of parts: none where a 0 makes the part absent.
+pub type Part = Option<Shape>;
 
 pub fn rechannel(a: ArrayRecord) -> Part
     ensures { result ≡ rechannel_of a }
 {
-    Part::There(Shape {
+    Some(Shape {
         ins: a.input,
         outs: a.channels,
         kernel: 1,
@@ -32,7 +27,7 @@ pub fn rechannel(a: ArrayRecord) -> Part
 pub fn head_rechannel(a: ArrayRecord) -> Part
     ensures { result ≡ head_rechannel_of a }
 {
-    Part::There(Shape {
+    Some(Shape {
         ins: a.head_in,
         outs: a.head_size,
         kernel: a.head_kernel,
@@ -56,7 +51,7 @@ fn conv(a: ArrayRecord, r: LayerRecord) -> Part
     ensures { result ≡ conv_of a r }
 {
     let outs = doubled(r);
-    Part::There(Shape {
+    Some(Shape {
         ins: a.channels,
         outs,
         kernel: r.kernel,
@@ -71,7 +66,7 @@ fn mixin(a: ArrayRecord, r: LayerRecord) -> Part
     ensures { result ≡ mixin_of a r }
 {
     let outs = doubled(r);
-    Part::There(Shape {
+    Some(Shape {
         ins: a.condition,
         outs,
         kernel: 1,
@@ -86,9 +81,9 @@ fn layer1x1(a: ArrayRecord, r: LayerRecord) -> Part
 {
     let groups = r.layer1x1_groups;
     if groups == 0 {
-        return Part::Absent;
+        return None;
     }
-    Part::There(Shape {
+    Some(Shape {
         ins: r.bottleneck,
         outs: a.channels,
         kernel: 1,
@@ -103,9 +98,9 @@ fn head1x1(a: ArrayRecord, r: LayerRecord) -> Part
 {
     let width = r.head1x1_width;
     if width == 0 {
-        return Part::Absent;
+        return None;
     }
-    Part::There(Shape {
+    Some(Shape {
         ins: r.bottleneck,
         outs: width,
         kernel: 1,
@@ -171,11 +166,11 @@ fn site(a: ArrayRecord, r: LayerRecord, i: usize) -> Part
     let sites = r.sites;
     let groups = site_groups(sites, i);
     if groups == 0 {
-        return Part::Absent;
+        return None;
     }
     let bits = r.shift_bits;
     let outs = site_width(a, r, i) * (1 + (bits >> i) % 2);
-    Part::There(Shape {
+    Some(Shape {
         ins: a.condition,
         outs,
         kernel: 1,
@@ -215,7 +210,7 @@ pub fn slot(a: ArrayRecord, r: LayerRecord, k: usize) -> Part
 // Whether the groups fail to divide both sides. Most convolutions have one group, and a division is dear where a call is one column.
 fn uneven_shape(sh: Shape) -> bool
     requires { InRange sh }
-    ensures { result ≡ uneven_of (There sh) }
+    ensures { result ≡ uneven_of (Some sh) }
 {
     let groups = sh.groups;
     if groups == 1 {
@@ -229,7 +224,7 @@ pub fn uneven(part: Part) -> bool
     ensures { result ≡ uneven_of part }
 {
     match part {
-        Part::Absent => false,
-        Part::There(sh) => uneven_shape(sh),
+        None => false,
+        Some(sh) => uneven_shape(sh),
     }
 }

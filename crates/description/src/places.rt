@@ -20,8 +20,8 @@ impl Place {
         ensures { result ≡ past_of self part }
     {
         match part {
-            Part::Absent => self,
-            Part::There(sh) => Place {
+            None => self,
+            Some(sh) => Place {
                 weights: self.weights + sh.weight_count(),
                 histories: self.histories + sh.history_count(),
                 positions: self.positions + 1,

@@ -7,11 +7,12 @@ ghost use Rattle.description.specs.Refusals.{unmatched_of};
 ghost use Rattle.description.specs.Sizes.{array_widths, largest, layer_widths};
 ghost use Rattle.description.specs.Tally.{LowTally, answer_of, count_all, start_of, with_layer};
 
-use crate::answers::{Checked, Sizes};
+use crate::answers::Sizes;
 use crate::numbers::{MOST, SLOTS};
 use crate::parts::{doubled, head_rechannel, rechannel, slot, uneven};
 use crate::places::Place;
 use crate::records::{ArrayRecord, LayerRecord};
+use refusal::Refusal;
 
 // The place past some parts, and whether one of them is uneven.
 #[derive(Clone, Copy)]
@@ -124,7 +125,7 @@ impl Tally {
     }
 
     // The answer once every layer is in: the head rechannel is the last part, and its one group divides.
-    pub fn answer(self, a: ArrayRecord) -> Checked
+    pub fn answer(self, a: ArrayRecord) -> Result<Sizes, Refusal>
         requires low_tally { LowTally self }
         requires array_ranges { ArrayRanges a }
         ensures { result ≡ answer_of self a }
@@ -133,16 +134,16 @@ impl Tally {
         let before = counted.place;
         let place = before.past(head_rechannel(a));
         if counted.uneven {
-            return Checked::Refused(3);
+            return Err(Refusal::Groups);
         }
         let unmatched = self.unmatched;
         if unmatched {
-            return Checked::Refused(4);
+            return Err(Refusal::Widths);
         }
         if (MOST < place.weights) | (MOST < place.histories) {
-            return Checked::Refused(5);
+            return Err(Refusal::TooLarge);
         }
-        Checked::Sound(Sizes {
+        Ok(Sizes {
             weights: place.weights,
             histories: place.histories,
             positions: place.positions,

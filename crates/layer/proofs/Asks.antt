@@ -1,4 +1,5 @@
 -- What a FiLM site and a convolution ask of a layer's buffers follows from what the layer asks. Assumes nothing.
+use Rattle.std.specs.Prelude.{None, Some}
 use mathlib.Core.Path.{◌≡◌, refl, sym, ◌∙◌, ap}
 use mathlib.Core.Bool.{Bool, true, false, cond, not, ◌&&◌, ◌||◌, and-true, and-false, true≢false, false≢true}
 use borrow.Author.Tests.{eqb-true, eq-eqb}
@@ -19,8 +20,7 @@ use Rattle.description.specs.Tally.{past_all}
 use Rattle.description.specs.ZeroRules.{bit}
 use Rattle.description.specs.declared.records.ArrayRecord.{ArrayRecord}
 use Rattle.description.specs.declared.records.LayerRecord.{LayerRecord}
-use Rattle.description.specs.declared.parts.Part.{Part}
-use Rattle.description.specs.declared.parts.Part.TheVariants.{Absent, There}
+use Rattle.description.specs.Part.{Part}
 use Rattle.description.specs.declared.places.Place.{Place}
 use Rattle.description.proofs.Slots.{slot_site, not_absent}
 use Rattle.slot.specs.Play.{PlayFits}
@@ -39,7 +39,7 @@ module _ (a : ArrayRecord) (r : LayerRecord) where
   -- a site is applied as it is, or not at all
   pub data Applied (i : ℕ) : Type 0 where
     as_is : applied_site a r i ≡ part_of a r (4 + i) → Applied i
-    not_applied : applied_site a r i ≡ Absent → Applied i
+    not_applied : applied_site a r i ≡ None → Applied i
 
   applied_by : (i : ℕ) → i < 8 → (b : Bool) → applies a r i ≡ b → Applied i
   unfolding applied_site
@@ -66,7 +66,7 @@ either true false e = absurd (true≢false e)
 either false b e = refl
 
 module _ (a : ArrayRecord) (r : LayerRecord) (i : ℕ) (b : Bool) (mode : b ≡ is_blended r.mode) where
-  pub left_out : (eqb i 6 && not b) ≡ true → Absent ≡ applied_site a r i
+  pub left_out : (eqb i 6 && not b) ≡ true → None ≡ applied_site a r i
   unfolding applied_site applies
   left_out e =
       let q = both (eqb i 6) b e in
@@ -95,7 +95,7 @@ module _ (a : ArrayRecord) (r : LayerRecord) (i : ℕ) (b : Bool) (mode : b ≡ 
   unfolding unless0
   there_unless g s = by (eqb g 0)
     where
-      by : (e : Bool) → not e ≡ is_there (cond e Absent (There s))
+      by : (e : Bool) → not e ≡ is_there (cond e None (Some s))
       by true = refl
       by false = refl
 
@@ -113,20 +113,20 @@ module _ (a : ArrayRecord) (r : LayerRecord) (i : ℕ) (b : Bool) (mode : b ≡ 
           (there_unless (site_groups r.sites i) _ ∙ ap is_there (site_part a r i h.site_in ∙ played h q))
 
 -- a part that is not there
-pub not_played : (p : Part) → false ≡ is_there p → p ≡ Absent
-not_played Absent e = refl
-not_played (There sh) e = absurd (false≢true e)
+pub not_played : (p : Part) → false ≡ is_there p → p ≡ None
+not_played None e = refl
+not_played (Some sh) e = absurd (false≢true e)
 
 -- a part that is there, of one that a 0 makes absent
-shape_unless : (n : ℕ) (s sh : Shape) → unless0 n s ≡ There sh → s ≡ sh
+shape_unless : (n : ℕ) (s sh : Shape) → unless0 n s ≡ Some sh → s ≡ sh
 unfolding unless0
 shape_unless n s sh e = by (eqb n 0) e
   where
-    by : (b : Bool) → cond b Absent (There s) ≡ There sh → s ≡ sh
+    by : (b : Bool) → cond b None (Some s) ≡ Some sh → s ≡ sh
     by true e = not_absent e
     by false e = cc
 
-module _ (a : ArrayRecord) (r : LayerRecord) (i : ℕ) (sh : Shape) (e : site_of a r i ≡ There sh) where
+module _ (a : ArrayRecord) (r : LayerRecord) (i : ℕ) (sh : Shape) (e : site_of a r i ≡ Some sh) where
   site_ins : sh.ins ≡ a.condition
   unfolding site_of
   site_ins = sym (ap (λ (s : Shape). s.ins) (shape_unless (site_groups r.sites i) _ sh e))
@@ -136,15 +136,15 @@ module _ (a : ArrayRecord) (r : LayerRecord) (i : ℕ) (sh : Shape) (e : site_of
   site_outs = sym (ap (λ (s : Shape). s.outs) (shape_unless (site_groups r.sites i) _ sh e))
 
 -- a site without groups is absent, and takes no place
-pub no_site : (a : ArrayRecord) (r : LayerRecord) (i : ℕ) → i < 8 → site_groups r.sites i ≡ 0 → part_of a r (4 + i) ≡ Absent
+pub no_site : (a : ArrayRecord) (r : LayerRecord) (i : ℕ) → i < 8 → site_groups r.sites i ≡ 0 → part_of a r (4 + i) ≡ None
 unfolding site_of unless0
 no_site a r i h e = sym (site_part a r i h) ∙ rw (eq-eqb (site_groups r.sites i) 0 e)
 
-nowhere : (p : Place) → p ≡ past_of p Absent
+nowhere : (p : Place) → p ≡ past_of p None
 unfolding past_of weights_of histories_of positions_of
 nowhere p = rw (add-zero p.weights, add-zero p.histories, add-zero p.positions)
 
-pub past-none : (a : ArrayRecord) (r : LayerRecord) (start : Place) (i : ℕ) → i < 8 → part_of a r (4 + i) ≡ Absent → slot_place a r start (4 + i) ≡ slot_place a r start (suc (4 + i))
+pub past-none : (a : ArrayRecord) (r : LayerRecord) (start : Place) (i : ℕ) → i < 8 → part_of a r (4 + i) ≡ None → slot_place a r start (4 + i) ≡ slot_place a r start (suc (4 + i))
 past-none a r start i h e =
     nowhere (slot_place a r start (4 + i)) ∙ ap (past_of (slot_place a r start (4 + i))) (sym e) ∙ slot_next a r start (4 + i) (omega arith)
 
@@ -157,7 +157,7 @@ part_sides : (n m size : ℕ) (s : Shape) → s.ins * m ≤ size → s.outs * m 
 unfolding unless0 ins_of outs_of
 part_sides n m size s h k = by (eqb n 0)
   where
-    by : (b : Bool) → (ins_of (cond b Absent (There s)) * m ≤ size) × (outs_of (cond b Absent (There s)) * m ≤ size)
+    by : (b : Bool) → (ins_of (cond b None (Some s)) * m ≤ size) × (outs_of (cond b None (Some s)) * m ≤ size)
     by true = (omega arith, omega arith)
     by false = (h, k)
 
@@ -211,7 +211,7 @@ module _ {a : ArrayRecord} {r : LayerRecord} {start : Place} {size m nwork : ℕ
   weights_inside j h = omega (arith, slot_within a r weights_of j h, fits.weights_inside)
 
   -- the convolution of slot j, from region x to region out
-  module _ (j : ℕ) (hj : j < 12) (sh : Shape) (e : part_of a r j ≡ There sh) (x out : ℕ) where
+  module _ (j : ℕ) (hj : j < 12) (sh : Shape) (e : part_of a r j ≡ Some sh) (x out : ℕ) where
     pub play_fits : x + sh.ins * m ≤ nwork → out + sh.outs * m ≤ nwork → sh.ins * m ≤ size → Apart out (sh.outs * m) x (sh.ins * m)
         → Apart out (sh.outs * m) (11 * size) (sh.ins * m) → Apart (11 * size) (sh.ins * m) x (sh.ins * m)
         → PlayFits sh (slot_place a r start j) (get_or positions (slot_place a r start j).positions 0) m nwork (length histories) (length positions) (length weights) x out (11 * size)
@@ -237,7 +237,7 @@ module _ {a : ArrayRecord} {r : LayerRecord} {start : Place} {size m nwork : ℕ
         }
 
   -- what slot k asks, from a region to a later one
-  pub conv_fits : (k : ℕ) → k < 4 → (sh : Shape) → part_of a r k ≡ There sh → (from to : ℕ) → Room size to → from + size ≤ to → from + size ≤ 9 * size
+  pub conv_fits : (k : ℕ) → k < 4 → (sh : Shape) → part_of a r k ≡ Some sh → (from to : ℕ) → Room size to → from + size ≤ to → from + size ≤ 9 * size
       → PlayFits sh (slot_place a r start k) (get_or positions (slot_place a r start k).positions 0) m nwork (length histories) (length positions) (length weights) from to (11 * size)
   unfolding ins_of outs_of
   conv_fits k hk sh e from to room le le9 =
@@ -249,11 +249,11 @@ module _ {a : ArrayRecord} {r : LayerRecord} {start : Place} {size m nwork : ℕ
 
   -- what a site asks, over a region beside those that it uses up
   module _ (i : ℕ) (hi : i < 8) (to : ℕ) (inside : to + size ≤ 16 * size) (beside : Apart to size (9 * size) (3 * size)) where
-    site_there : (sh : Shape) → part_of a r (4 + i) ≡ There sh
+    site_there : (sh : Shape) → part_of a r (4 + i) ≡ Some sh
         → SiteThere sh (bit r.shift_bits i) (slot_place a r start (4 + i)) (get_or positions (slot_place a r start (4 + i)).positions 0) (site_width a r i) a.condition m nwork
         (length histories) (length positions) (length weights) (3 * size) to (9 * size) (11 * size)
     site_there sh e =
-        let es : site_of a r i ≡ There sh = site_part a r i hi ∙ e in
+        let es : site_of a r i ≡ Some sh = site_part a r i hi ∙ e in
         let ins : sh.ins * m ≡ a.condition * m = ap (λ (n : ℕ). n * m) (site_ins a r i sh es) in
         let outs : sh.outs * m ≡ site_width a r i * cond (bit r.shift_bits i) 2 1 * m = ap (λ (n : ℕ). n * m) (site_outs a r i sh es) in
         let two = two_regions (site_width a r i) m size (bit r.shift_bits i) (width_in i hi) in
@@ -275,7 +275,7 @@ module _ {a : ArrayRecord} {r : LayerRecord} {start : Place} {size m nwork : ℕ
       small = fits.small;
     }
       where
-        by : (sh : Shape) → applied_site a r i ≡ There sh → Applied a r i
+        by : (sh : Shape) → applied_site a r i ≡ Some sh → Applied a r i
             → SiteThere sh (bit r.shift_bits i) (slot_place a r start (4 + i)) (get_or positions (slot_place a r start (4 + i)).positions 0) (site_width a r i) a.condition m nwork
             (length histories) (length positions) (length weights) (3 * size) to (9 * size) (11 * size)
         by sh e (as_is q) = site_there sh (sym q ∙ e)

@@ -1,4 +1,5 @@
 -- What a FiLM site and a convolution do to a layer under way, in terms of the trace. Assumes nothing.
+use Rattle.std.specs.Prelude.{None, Some}
 use mathlib.Core.Path.{◌≡◌, refl, sym, ◌∙◌, ap}
 use mathlib.Core.List.{List}
 use Prim.Native.Nat.{ℕ, suc, ◌+◌, ◌*◌, ◌≤◌, ◌<◌}
@@ -15,8 +16,7 @@ use Rattle.description.specs.Sizes.{histories_of, positions_of}
 use Rattle.description.specs.ZeroRules.{bit}
 use Rattle.description.specs.declared.records.ArrayRecord.{ArrayRecord}
 use Rattle.description.specs.declared.records.LayerRecord.{LayerRecord}
-use Rattle.description.specs.declared.parts.Part.{Part}
-use Rattle.description.specs.declared.parts.Part.TheVariants.{Absent, There}
+use Rattle.description.specs.Part.{Part}
 use Rattle.description.specs.declared.places.Place.{Place}
 use Rattle.slot.specs.View.{memory_in, weights_in}
 use Rattle.slot.specs.Steps.{pushed, convolved, sited}
@@ -54,7 +54,7 @@ module _ {a : ArrayRecord} {r : LayerRecord} {start : Place} {size m nwork : ℕ
     fewer = fewer_by (applied a r i hi)
 
     -- its position
-    place_by : Applied a r i → (sh : Shape) → part_of a r (4 + i) ≡ There sh → get_or positions' (slot_place a r start (4 + i)).positions 0 < ring_length sh
+    place_by : Applied a r i → (sh : Shape) → part_of a r (4 + i) ≡ Some sh → get_or positions' (slot_place a r start (4 + i)).positions 0 < ring_length sh
     unfolding histories_of positions_of
     place_by (as_is q) sh e =
         let h : histories_of (part_of a r (4 + i)) ≡ history_count sh = ap histories_of e in
@@ -116,31 +116,31 @@ module _ {a : ArrayRecord} {r : LayerRecord} {start : Place} {size m nwork : ℕ
     }
 
   -- a site that is not played: nothing is done
-  pub site_left_out : (i : ℕ) → i < 8 → {from to : ℕ} → 4 * size ≤ to → {work : List Float} → applied_site a r i ≡ Absent
+  pub site_left_out : (i : ℕ) → i < 8 → {from to : ℕ} → 4 * size ≤ to → {work : List Float} → applied_site a r i ≡ None
       → SitePast a r start weights size m work histories positions work histories positions i from to from
   site_left_out i h past q = site_past i h past (site_absent _ _ _ _ _ _ _ _ _ _ _ _ _ _ _ q)
 
   -- ---- the convolution of slot k
   module _ (k : ℕ) (hk : k < 4) {from to : ℕ} {work : List Float} where
     -- absent: nothing is done
-    pub conv_absent : part_of a r k ≡ Absent → ConvPast a r start weights size m work histories positions work histories positions k from to
+    pub conv_absent : part_of a r k ≡ None → ConvPast a r start weights size m work histories positions work histories positions k from to
     unfolding outs_of pushed histories_of positions_of
     conv_absent q =
         record {
           by = λ x c s f u held step. (
-            advance fits k (omega arith) Absent (nothing histories_of refl) (nothing positions_of refl) free_self free_self (free_self {P = λ n. Unit {0}}) (λ n h. tt) u
+            advance fits k (omega arith) None (nothing histories_of refl) (nothing positions_of refl) free_self free_self (free_self {P = λ n. Unit {0}}) (λ n h. tt) u
                 (unplayed k (omega arith) u
                 ∙ sym (still (λ t. memories_at a r start weights x c s t k) (λ t. step t ∙ ap (λ (p : Part). pushed p (memories_at a r start weights x c s t k) (f t)) q) m)),
             record { is = λ o t ho ht. absurd (omega (arith, ho, ap outs_of q)) },
           );
-          leaves = leaves fits k (omega arith) Absent (nothing histories_of refl) (nothing positions_of refl) free_self free_self free_self
+          leaves = leaves fits k (omega arith) None (nothing histories_of refl) (nothing positions_of refl) free_self free_self free_self
               (λ sh e. (fits.slots k (omega arith) sh e).place_in);
         }
       where
-        nothing : (f : Part → ℕ) → f Absent ≡ 0 → f Absent ≤ f (part_of a r k)
+        nothing : (f : Part → ℕ) → f None ≡ 0 → f None ≤ f (part_of a r k)
         nothing f z = omega (arith, z)
 
-    module _ (past : 4 * size ≤ to) (sh : Shape) (q : part_of a r k ≡ There sh) {work' histories' : List Float} {positions' : List ℕ}
+    module _ (past : 4 * size ≤ to) (sh : Shape) (q : part_of a r k ≡ Some sh) {work' histories' : List Float} {positions' : List ℕ}
         (pl : Played sh (slot_place a r start k) weights m from to (11 * size) work histories positions work' histories' positions') where
       narrow : (sh.ins * m ≤ size) × (sh.outs * m ≤ size)
       unfolding ins_of outs_of
@@ -149,17 +149,17 @@ module _ {a : ArrayRecord} {r : LayerRecord} {start : Place} {size m nwork : ℕ
       conv_others : Free nan (Outside size to) work work'
       conv_others = free_as pl.others (λ n h. (omega (arith, h.0, narrow.1), omega (arith, h.1, narrow.0)))
 
-      same_histories : histories_of (There sh) ≤ histories_of (part_of a r k)
+      same_histories : histories_of (Some sh) ≤ histories_of (part_of a r k)
       same_histories = rw q (omega arith)
 
-      same_positions : positions_of (There sh) ≤ positions_of (part_of a r k)
+      same_positions : positions_of (Some sh) ≤ positions_of (part_of a r k)
       same_positions = rw q (omega arith)
 
-      kept : Free nan (λ i. Apart (slot_place a r start k).histories (histories_of (There sh)) i 1) histories histories'
+      kept : Free nan (λ i. Apart (slot_place a r start k).histories (histories_of (Some sh)) i 1) histories histories'
       unfolding histories_of
       kept = pl.histories_kept
 
-      kept_places : Free 0 (λ i. Apart (slot_place a r start k).positions (positions_of (There sh)) i 1) positions positions'
+      kept_places : Free 0 (λ i. Apart (slot_place a r start k).positions (positions_of (Some sh)) i 1) positions positions'
       unfolding positions_of
       kept_places = pl.positions_kept
 
@@ -169,10 +169,10 @@ module _ {a : ArrayRecord} {r : LayerRecord} {start : Place} {size m nwork : ℕ
 
       conv_leaves : Leaves a r start weights size m work histories positions work' histories' positions' (Outside size to)
       conv_leaves =
-          leaves fits k (omega arith) (There sh) same_histories same_positions kept kept_places conv_others
+          leaves fits k (omega arith) (Some sh) same_histories same_positions kept kept_places conv_others
           (λ s e. let es : sh ≡ s = same (sym q ∙ e) in rw (← es) (place_stays pl in_buffer (fits.slots k (omega arith) sh q).place_in))
         where
-          same : {s t : Shape} → There s ≡ There t → s ≡ t
+          same : {s t : Shape} → Some s ≡ Some t → s ≡ t
           same e = cc
 
       module _ (x c : ℕ → ℕ → Float) (s : ℕ → Memory) (f : ℕ → ℕ → Float) (u : UnderWay a r start weights size m x c s (turn_of k) work histories positions)
@@ -185,12 +185,12 @@ module _ {a : ArrayRecord} {r : LayerRecord} {start : Place} {size m nwork : ℕ
         unfolding ins_of
         held_there = let e : ins_of (part_of a r k) ≡ sh.ins = ap ins_of q in record { is = λ o t ho ht. held.is o t (omega (arith, ho, e)) ht }
 
-        first : R 0 ≡ memory_in (There sh) (slot_place a r start k) histories positions
+        first : R 0 ≡ memory_in (Some sh) (slot_place a r start k) histories positions
         unfolding slot_memory
         first = sym (unplayed k (omega arith) u) ∙ ap (λ (p : Part). memory_in p (slot_place a r start k) histories positions) q
 
-        trace : Holds to sh.outs m (λ o t. convolved (There sh) (weights_in (There sh) (slot_place a r start k) weights) (R (suc t)) o) work'
-            × (memory_in (There sh) (slot_place a r start k) histories' positions' ≡ R m)
+        trace : Holds to sh.outs m (λ o t. convolved (Some sh) (weights_in (Some sh) (slot_place a r start k) weights) (R (suc t)) o) work'
+            × (memory_in (Some sh) (slot_place a r start k) histories' positions' ≡ R m)
         trace = play_trace pl held_there R first (λ t. step t ∙ ap (λ (p : Part). pushed p (R t) (f t)) q)
 
         conv_memory : slot_memory a r start histories' positions' k ≡ R m
@@ -209,7 +209,7 @@ module _ {a : ArrayRecord} {r : LayerRecord} {start : Place} {size m nwork : ℕ
 
         conv_under_way : UnderWay a r start weights size m x c s (suc (turn_of k)) work' histories' positions'
         conv_under_way =
-            advance fits k (omega arith) (There sh) same_histories same_positions kept kept_places conv_others (λ n h. (omega (arith, h, past), omega (arith, h))) u conv_memory
+            advance fits k (omega arith) (Some sh) same_histories same_positions kept kept_places conv_others (λ n h. (omega (arith, h, past), omega (arith, h))) u conv_memory
 
       pub conv-past : ConvPast a r start weights size m work histories positions work' histories' positions' k from to
       conv-past = record {

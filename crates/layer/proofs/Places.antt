@@ -1,4 +1,5 @@
 -- Where the numbers of a layer's slots lie: one slot after the other, none in common, within the layer's. Assumes nothing.
+use Rattle.std.specs.Prelude.{None}
 use mathlib.Core.Path.{◌≡◌, refl, sym, ◌∙◌, ap}
 use mathlib.Core.List.{List, [], ◌∷◌}
 use mathlib.Core.Logic.{⊎_elim}
@@ -14,8 +15,7 @@ use Rattle.description.specs.Sizes.{weights_of, histories_of, positions_of, tota
 use Rattle.description.specs.Tally.{past_all}
 use Rattle.description.specs.declared.records.ArrayRecord.{ArrayRecord}
 use Rattle.description.specs.declared.records.LayerRecord.{LayerRecord}
-use Rattle.description.specs.declared.parts.Part.{Part}
-use Rattle.description.specs.declared.parts.Part.TheVariants.{Absent}
+use Rattle.description.specs.Part.{Part}
 use Rattle.description.specs.declared.places.Place.{Place}
 use Rattle.layer.specs.declared.slots.Slots.{Slots}
 use Rattle.layer.specs.Layered.{slot_place}
@@ -24,7 +24,7 @@ use Rattle.layer.specs.Slots.{place_in, SlotsOf}
 -- ---- sums of the first parts
 module _ (f : Part → ℕ) where
   -- the first i parts and part i are the first i + 1
-  pub total_more : (ps : List Part) (i : ℕ) → i < length ps → total f (take i ps) + f (get_or ps i Absent) ≡ total f (take (suc i) ps)
+  pub total_more : (ps : List Part) (i : ℕ) → i < length ps → total f (take i ps) + f (get_or ps i None) ≡ total f (take (suc i) ps)
   unfolding total
   total_more [] i h = absurd (not-suc-le-zero h)
   total_more (p ∷ ps) zero h = omega arith

@@ -1,4 +1,5 @@
 -- A step on one slot: it moves that slot's memory on by m columns, and leaves the other slots' memories, their places and the layer's input and condition. Assumes nothing.
+use Rattle.std.specs.Prelude.{Some}
 use mathlib.Core.Path.{◌≡◌, refl, sym, ◌∙◌, ap, subst}
 use mathlib.Core.Bool.{Bool, cond}
 use mathlib.Core.List.{List, [], ◌∷◌}
@@ -20,8 +21,7 @@ use Rattle.description.specs.Sizes.{histories_of, positions_of}
 use Rattle.description.specs.Tally.{past_all}
 use Rattle.description.specs.declared.records.ArrayRecord.{ArrayRecord}
 use Rattle.description.specs.declared.records.LayerRecord.{LayerRecord}
-use Rattle.description.specs.declared.parts.Part.{Part}
-use Rattle.description.specs.declared.parts.Part.TheVariants.{There}
+use Rattle.description.specs.Part.{Part}
 use Rattle.description.specs.declared.places.Place.{Place}
 use Rattle.slot.proofs.Trace.{memory_kept}
 use Rattle.layer.specs.Layered.{slot_place, slot_memory, memories_at, LayerFits}
@@ -107,7 +107,7 @@ module _ {a : ArrayRecord} {r : LayerRecord} {start : Place} {size m nwork : ℕ
         (λ i lo hi. omega (arith, slots_apart a r histories_of j k hj hk ne start.histories, fewer, lo, hi))
         (λ i lo hi. omega (arith, slots_apart a r positions_of j k hj hk ne start.positions, fewer-places, lo, hi))
 
-    place_kept : (k : ℕ) → k < 12 → (k ≡ j → ⊥) → (sh : Shape) → part_of a r k ≡ There sh
+    place_kept : (k : ℕ) → k < 12 → (k ≡ j → ⊥) → (sh : Shape) → part_of a r k ≡ Some sh
         → get_or positions' (slot_place a r start k).positions 0 ≡ get_or positions (slot_place a r start k).positions 0
     unfolding slot_place past_all positions_of
     place_kept k hk ne sh e =
@@ -116,13 +116,13 @@ module _ {a : ArrayRecord} {r : LayerRecord} {start : Place} {size m nwork : ℕ
 
     -- the frames, if the slot's own position stays below its ring length
     pub leaves : {P : ℕ → Type 0} {work work' : List Float} → Free nan P work work'
-        → ((sh : Shape) → part_of a r j ≡ There sh → get_or positions' (slot_place a r start j).positions 0 < ring_length sh)
+        → ((sh : Shape) → part_of a r j ≡ Some sh → get_or positions' (slot_place a r start j).positions 0 < ring_length sh)
         → Leaves a r start weights size m work histories positions work' histories' positions' P
     unfolding slot_place past_all
     leaves f own = record {
       others = f;
       places = λ k hk sh e. ⊎_elim
-          (λ (q : k ≡ j). subst (λ (k : ℕ). part_of a r k ≡ There sh → get_or positions' (slot_place a r start k).positions 0 < ring_length sh) (sym q) (own sh) e)
+          (λ (q : k ≡ j). subst (λ (k : ℕ). part_of a r k ≡ Some sh → get_or positions' (slot_place a r start k).positions 0 < ring_length sh) (sym q) (own sh) e)
           (λ (ne : k ≡ j → ⊥). rw (place_kept k hk ne sh e) (fits.slots k hk sh e).place_in)
           (same_or k j);
       histories_kept = free_as kept (λ i h. omega (arith, slot_within a r histories_of j hj, fewer, h));

@@ -1,4 +1,5 @@
 -- The pieces of a layer, one step after the other, come to the trace. Assumes nothing.
+use Rattle.std.specs.Prelude.{None, Some}
 use mathlib.Core.Path.{◌≡◌, refl, sym, ◌∙◌, ap}
 use mathlib.Core.Bool.{Bool, true, false, ◌&&◌}
 use mathlib.Core.List.{List}
@@ -24,8 +25,7 @@ use Rattle.description.specs.Sizes.{histories_of, positions_of}
 use borrow.Author.Tests.{eq-eqb, ne_eqb}
 use Rattle.description.specs.declared.records.ArrayRecord.{ArrayRecord}
 use Rattle.description.specs.declared.records.LayerRecord.{LayerRecord}
-use Rattle.description.specs.declared.parts.Part.{Part}
-use Rattle.description.specs.declared.parts.Part.TheVariants.{Absent, There}
+use Rattle.description.specs.Part.{Part}
 use Rattle.description.specs.declared.places.Place.{Place}
 use Rattle.slot.specs.Steps.{pushed, convolved}
 use Rattle.slot.specs.Site.{result_at}
@@ -107,8 +107,8 @@ behind i h = record { site_in = omega arith; layer1x1_there = λ e. absurd (omeg
 -- where a site leaves its columns
 pub result_le : (p : Part) (to from result : ℕ) → result ≡ result_at p to from → from ≤ to → result ≤ to
 unfolding result_at
-result_le Absent to from result e h = omega arith
-result_le (There sh) to from result e h = omega arith
+result_le None to from result e h = omega arith
+result_le (Some sh) to from result e h = omega arith
 
 module _ {a : ArrayRecord} {r : LayerRecord} {start : Place} {weights : List Float} {size m : ℕ} {w0 h0 w1 h1 w2 h2 w3 h3 : List Float} {p0 p1 p2 p3 : List ℕ} {from : ℕ} where
   -- site 0, conv, site 1
@@ -273,11 +273,11 @@ module _ {a : ArrayRecord} {r : LayerRecord} {start : Place} {weights : List Flo
 
 -- ---- a part that a 0 leaves out, or not
 module _ (n : ℕ) (sh : Shape) where
-  pub unless_none : n ≡ 0 → unless0 n sh ≡ Absent
+  pub unless_none : n ≡ 0 → unless0 n sh ≡ None
   unfolding unless0
   unless_none e = rw (eq-eqb n 0 e)
 
-  pub unless_some : (n ≡ 0 → ⊥) → unless0 n sh ≡ There sh
+  pub unless_some : (n ≡ 0 → ⊥) → unless0 n sh ≡ Some sh
   unfolding unless0
   unless_some ne = rw (ne_eqb n 0 ne)
 
@@ -310,18 +310,18 @@ module _ {a : ArrayRecord} {r : LayerRecord} {start : Place} {weights : List Flo
       → UnderWay a r start weights size m x c s (turn_of j) w h p → UnderWay a r start weights size m x c s (suc (turn_of j)) w h p
   unfolding histories_of positions_of
   skip j hj step u =
-      advance fits j hj Absent (omega arith) (omega arith) free_self free_self (free_self {P = λ n. Unit {0}}) (λ n h. tt) u
+      advance fits j hj None (omega arith) (omega arith) free_self free_self (free_self {P = λ n. Unit {0}}) (λ n h. tt) u
       (unplayed j hj u ∙ sym (still (λ t. memories_at a r start weights x c s t j) step m))
 
 -- head1x1, site 7, the accumulator
 module _ {a : ArrayRecord} {r : LayerRecord} {start : Place} {weights : List Float} {size m : ℕ} (w0 w1 : List Float) {h0 : List Float} {p0 : List ℕ}
     (fits : LayerFits a r start size m (length w0) h0 p0 weights) (none : r.head1x1_width ≡ 0)
     (s1 : w1 ≡ fill (4 * size) (r.bottleneck * m) (λ i. add binary32 (at w0 (4 * size + i)) (at w0 (6 * size + i))) w0) where
-  absent_head : head1x1_of a r ≡ Absent
+  absent_head : head1x1_of a r ≡ None
   unfolding head1x1_of
   absent_head = unless_none _ _ none
 
-  absent_site : applied_site a r 7 ≡ Absent
+  absent_site : applied_site a r 7 ≡ None
   unfolding applied_site applies
   absent_site = rw absent_head
 
@@ -357,7 +357,7 @@ module _ {a : ArrayRecord} {r : LayerRecord} {start : Place} {weights : List Flo
   head_shape : Shape
   head_shape = pointwise r.bottleneck r.head1x1_width r.head1x1_groups r.head1x1_bias
 
-  head_there : head1x1_of a r ≡ There head_shape
+  head_there : head1x1_of a r ≡ Some head_shape
   unfolding head1x1_of head_shape
   head_there = unless_some _ _ some
 
@@ -404,7 +404,7 @@ module _ {a : ArrayRecord} {r : LayerRecord} {start : Place} {weights : List Flo
 -- layer1x1, site 6, the layer's input
 module _ {a : ArrayRecord} {r : LayerRecord} {start : Place} {weights : List Float} {size m : ℕ} (w0 : List Float) {h0 : List Float} {p0 : List ℕ}
     (fits : LayerFits a r start size m (length w0) h0 p0 weights) (none : r.layer1x1_groups ≡ 0) where
-  absent_layer : layer1x1_of a r ≡ Absent
+  absent_layer : layer1x1_of a r ≡ None
   unfolding layer1x1_of
   absent_layer = unless_none _ _ none
 
@@ -412,7 +412,7 @@ module _ {a : ArrayRecord} {r : LayerRecord} {start : Place} {weights : List Flo
   never true = refl
   never false = refl
 
-  absent_six : applied_site a r 6 ≡ Absent
+  absent_six : applied_site a r 6 ≡ None
   unfolding applied_site applies
   absent_six = rw (absent_layer, never (is_blended r.mode))
 
@@ -435,7 +435,7 @@ module _ {a : ArrayRecord} {r : LayerRecord} {start : Place} {weights : List Flo
   layer_shape : Shape
   layer_shape = pointwise r.bottleneck a.channels r.layer1x1_groups r.layer1x1_bias
 
-  layer_there : layer1x1_of a r ≡ There layer_shape
+  layer_there : layer1x1_of a r ≡ Some layer_shape
   unfolding layer1x1_of layer_shape
   layer_there = unless_some _ _ some
 

@@ -1,5 +1,5 @@
 -- One column of a layer, with every column between named. Document 01, 'The recurrence' (Layer).
-use Rattle.std.specs.Prelude.{Bool, true, false, cond, ◌&&◌, List, [], ◌∷◌, ℕ, ◌+◌, get_or, Float}
+use Rattle.std.specs.Prelude.{Bool, true, false, cond, ◌&&◌, List, [], ◌∷◌, ℕ, ◌+◌, get_or, Float, None, Some}
 use Rattle.std.specs.Float.{binary32}
 use Rattle.std.specs.Float.Ieee.{add}
 use Rattle.ring.specs.Memory.{Memory}
@@ -10,13 +10,12 @@ use Rattle.description.specs.ZeroRules.{bit}
 use Rattle.description.specs.Parts.{conv_of, mixin_of, layer1x1_of, head1x1_of, site_of, site_width}
 use Rattle.description.specs.declared.records.ArrayRecord.{ArrayRecord}
 use Rattle.description.specs.declared.records.LayerRecord.{LayerRecord}
-use Rattle.description.specs.declared.parts.Part.{Part}
-use Rattle.description.specs.declared.parts.Part.TheVariants.{Absent, There}
+use Rattle.description.specs.Part.{Part}
 use Rattle.slot.specs.Steps.{pushed, convolved, sited}
 
 abbrev pub is_there : Part → Bool
-is_there Absent = false
-is_there (There sh) = true
+is_there None = false
+is_there (Some sh) = true
 
 abbrev pub is_blended : Mode → Bool
 is_blended None = false
@@ -31,7 +30,7 @@ module _ (a : ArrayRecord) (r : LayerRecord) where
 
   -- a site as it is applied
   unfoldable pub applied_site : ℕ → Part
-  applied_site i = cond (applies i) (site_of a r i) Absent
+  applied_site i = cond (applies i) (site_of a r i) None
 
   -- the weights and memories of the slots, by slot number: 0 conv, 1 mixin, 2 layer1x1, 3 head1x1, 4 to 11 the sites 0 to 7. x: the layer's input
   module _ (weights : ℕ → List Float) (memory : ℕ → Memory) (x condition : ℕ → Float) where

@@ -1,5 +1,5 @@
 -- A layer over a block of columns within the lent buffers: what it asks, and what it does.
-use Rattle.std.specs.Prelude.{◌≡◌, ◌⊎◌, List, [], ℕ, zero, suc, ◌+◌, ◌*◌, ◌≤◌, ◌<◌, length, get_or, take, Float}
+use Rattle.std.specs.Prelude.{◌≡◌, ◌⊎◌, List, [], ℕ, zero, suc, ◌+◌, ◌*◌, ◌≤◌, ◌<◌, length, get_or, take, Float, Some}
 use Rattle.std.specs.Float.{nan}
 use Rattle.lists.specs.Region.{Apart, Holds, Free}
 use Rattle.ring.specs.Memory.{Memory}
@@ -13,7 +13,6 @@ use Rattle.description.specs.Sizes.{weights_of, histories_of, positions_of, tota
 use Rattle.description.specs.Tally.{past_all}
 use Rattle.description.specs.declared.records.ArrayRecord.{ArrayRecord}
 use Rattle.description.specs.declared.records.LayerRecord.{LayerRecord}
-use Rattle.description.specs.declared.parts.Part.TheVariants.{There}
 use Rattle.description.specs.declared.places.Place.{Place}
 use Rattle.slot.specs.View.{weights_in, memory_in}
 use Rattle.layer.specs.Column.{after, signal, accumulated}
@@ -56,7 +55,7 @@ module _ (a : ArrayRecord) (r : LayerRecord) (start : Place) where
     pub small : nwork ≤ 0xffff_ffff
     pub head_wide : head_width r ≡ a.head_in
     pub residual_width : r.layer1x1_groups ≡ 0 → r.bottleneck ≡ a.channels
-    pub slots : (k : ℕ) → k < 12 → (sh : Shape) → part_of a r k ≡ There sh → SlotFits sh (slot_place k) histories positions weights
+    pub slots : (k : ℕ) → k < 12 → (sh : Shape) → part_of a r k ≡ Some sh → SlotFits sh (slot_place k) histories positions weights
     pub weights_inside : start.weights + total weights_of (slots_of a r) ≤ length weights
     pub histories_in : start.histories + total histories_of (slots_of a r) ≤ length histories
     pub positions_in : start.positions + total positions_of (slots_of a r) ≤ length positions
@@ -76,7 +75,7 @@ module _ (a : ArrayRecord) (r : LayerRecord) (start : Place) where
       pub by : (x c h : ℕ → ℕ → Float) → Holds (2 * size) a.channels m (λ o t. x t o) work → Holds (3 * size) a.condition m (λ o t. c t o) work
           → Holds (4 * size) a.head_in m (λ o t. h t o) work → LayeredAs x c h
       pub result_in : (result ≡ 2 * size) ⊎ (result ≡ 13 * size)
-      pub places : (k : ℕ) → k < 12 → (sh : Shape) → part_of a r k ≡ There sh → get_or positions' (slot_place k).positions 0 < ring_length sh
+      pub places : (k : ℕ) → k < 12 → (sh : Shape) → part_of a r k ≡ Some sh → get_or positions' (slot_place k).positions 0 < ring_length sh
       pub others : Free nan (λ i. i < 2 * size) work work'
       pub histories_kept : Free nan (λ i. Apart start.histories (total histories_of (slots_of a r)) i 1) histories histories'
       pub positions_kept : Free 0 (λ i. Apart start.positions (total positions_of (slots_of a r)) i 1) positions positions'

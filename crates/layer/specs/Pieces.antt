@@ -1,5 +1,5 @@
 -- The pieces of a layer over a block of columns: what each asks, and what it does. A layer is these pieces, one after the other.
-use Rattle.std.specs.Prelude.{◌≡◌, cond, true, List, ◌⊎◌, ℕ, suc, ◌+◌, ◌*◌, ◌≤◌, ◌<◌, ltb, get_or, Float}
+use Rattle.std.specs.Prelude.{◌≡◌, cond, true, List, ◌⊎◌, ℕ, suc, ◌+◌, ◌*◌, ◌≤◌, ◌<◌, ltb, get_or, Float, None, Some}
 use Rattle.std.specs.Float.{nan}
 use Rattle.lists.specs.Region.{Apart, Holds, Free}
 use Rattle.ring.specs.Memory.{Memory}
@@ -9,8 +9,7 @@ use Rattle.description.specs.Parts.{mid, layer1x1_of, head1x1_of, slots_of, part
 use Rattle.description.specs.Sizes.{histories_of, positions_of, total}
 use Rattle.description.specs.declared.records.ArrayRecord.{ArrayRecord}
 use Rattle.description.specs.declared.records.LayerRecord.{LayerRecord}
-use Rattle.description.specs.declared.parts.Part.{Part}
-use Rattle.description.specs.declared.parts.Part.TheVariants.{Absent, There}
+use Rattle.description.specs.Part.{Part}
 use Rattle.description.specs.declared.places.Place.{Place}
 use Rattle.slot.specs.Steps.{pushed, convolved}
 use Rattle.slot.specs.Site.{result_at}
@@ -20,12 +19,12 @@ use Rattle.layer.specs.Slots.{turn_of}
 
 -- the sides of a part
 unfoldable pub ins_of : Part → ℕ
-ins_of Absent = 0
-ins_of (There sh) = sh.ins
+ins_of None = 0
+ins_of (Some sh) = sh.ins
 
 unfoldable pub outs_of : Part → ℕ
-outs_of Absent = 0
-outs_of (There sh) = sh.outs
+outs_of None = 0
+outs_of (Some sh) = sh.outs
 
 -- a region that a piece may write: past the layer's input and condition, beside regions 9 to 11, which each piece uses up
 pub record Room (size to : ℕ) : Type 0 where
@@ -54,7 +53,7 @@ module _ (a : ArrayRecord) (r : LayerRecord) (start : Place) (weights : List Flo
     -- the places of `work` that P allows, and all histories and positions but the layer's, are as they were; the layer's positions are below their ring lengths
     pub record Leaves (P : ℕ → Type 0) : Type 0 where
       pub others : Free nan P work work'
-      pub places : (k : ℕ) → k < 12 → (sh : Shape) → part_of a r k ≡ There sh → get_or positions' (slot_place a r start k).positions 0 < ring_length sh
+      pub places : (k : ℕ) → k < 12 → (sh : Shape) → part_of a r k ≡ Some sh → get_or positions' (slot_place a r start k).positions 0 < ring_length sh
       pub histories_kept : Free nan (λ i. Apart start.histories (total histories_of (slots_of a r)) i 1) histories histories'
       pub positions_kept : Free 0 (λ i. Apart start.positions (total positions_of (slots_of a r)) i 1) positions positions'
 

@@ -1,4 +1,5 @@
 -- Histories and positions after columns from a reset: a reset makes them so, and a block that is played keeps them so. Assumes nothing.
+use Rattle.std.specs.Prelude.{None, Some}
 use mathlib.Core.Path.{◌≡◌, refl, sym, ◌∙◌, ap}
 use mathlib.Core.List.{List, [], ◌∷◌, ◌++◌}
 use Prim.Native.Nat.{ℕ, ◌+◌, ◌<◌}
@@ -17,8 +18,7 @@ use Rattle.turns.proofs.Numbered.{states_join}
 use Rattle.description.specs.Parts.{parts_of}
 use Rattle.description.specs.Refusals.{refusal_of}
 use Rattle.description.specs.Sizes.{histories_of, place_at, positions_of, sizes_of, total}
-use Rattle.description.specs.declared.parts.Part.{Part}
-use Rattle.description.specs.declared.parts.Part.TheVariants.{Absent, There}
+use Rattle.description.specs.Part.{Part}
 use Rattle.reset.specs.Resets.{Resets, refused7, reset_number}
 use Rattle.array.specs.Stages.{Column, first_part, next, out, part_at, part_count, stage_count}
 use Rattle.array.specs.Memories.{all_memories, histories_from, histories_joined, memories_of, positions_from, positions_joined}
@@ -57,8 +57,8 @@ module _ {d : List ℕ} {histories : List Float} {positions : List ℕ} {r : ℕ
 -- what stages that have heard nothing remember has the sizes of its parts
 silent_fits : (p : Part) → Fits p (silent p)
 unfolding Fits silent
-silent_fits Absent = refl
-silent_fits (There sh) = length-replicate (history_count sh) (of_bits binary32 0)
+silent_fits None = refl
+silent_fits (Some sh) = length-replicate (history_count sh) (of_bits binary32 0)
 
 silence_sized : (d : List ℕ) → Sized d (silence d)
 unfolding silence
@@ -66,14 +66,14 @@ silence_sized d k l =
     fit_by (stage_parts d k) (tab (part_count d k) (λ j. silent (part_at d (first_part k + j)))) (length-tab (part_count d k) _ ∙ sym (stage_length d k))
     (λ j h. one j (rw (stage_length d k) at h))
   where
-    one : (j : ℕ) → j < part_count d k → Fits (get_or (stage_parts d k) j Absent) (get_or (tab (part_count d k) (λ j. silent (part_at d (first_part k + j)))) j none)
+    one : (j : ℕ) → j < part_count d k → Fits (get_or (stage_parts d k) j None) (get_or (tab (part_count d k) (λ j. silent (part_at d (first_part k + j)))) j none)
     one j h = rw (at-tab none (part_count d k) (λ j. silent (part_at d (first_part k + j))) j h, ← part_is d k j l h) (silent_fits (part_at d (first_part k + j)))
 
 -- memories of the right sizes, end to end
 history_long : (p : Part) (s : Memory) → Fits p s → length s.history ≡ histories_of p
 unfolding Fits histories_of
-history_long Absent s h = ap (λ (s : Memory). length s.history) h
-history_long (There sh) s h = h
+history_long None s h = ap (λ (s : Memory). length s.history) h
+history_long (Some sh) s h = h
 
 histories_long : (ps : List Part) (ss : List Memory) → AllFit ps ss → length (histories_joined ss) ≡ total histories_of ps
 unfolding AllFit histories_joined total
@@ -87,8 +87,8 @@ unfolding AllFit positions_joined total positions_of
 positions_long [] [] h = refl
 positions_long [] (s ∷ ss) h = absurd h
 positions_long (p ∷ ps) [] h = absurd h
-positions_long (Absent ∷ ps) (s ∷ ss) h = rw (zero-add) (positions_long ps ss h.1)
-positions_long (There sh ∷ ps) (s ∷ ss) h = let e = positions_long ps ss h.1 in omega (arith, e)
+positions_long (None ∷ ps) (s ∷ ss) h = rw (zero-add) (positions_long ps ss h.1)
+positions_long (Some sh ∷ ps) (s ∷ ss) h = let e = positions_long ps ss h.1 in omega (arith, e)
 
 module _ (d : List ℕ) (st : ℕ → List Memory) (sized : Sized d st) where
   all_fit : AllFit (parts_of d) (all_memories d st)
@@ -115,7 +115,7 @@ module _ {d : List ℕ} {w : List Float} {count : ℕ} {histories : List Float} 
   pub same : (k : ℕ) → k < stage_count d → memories_of d histories positions k ≡ now k
   same k l = rw (heard.histories_are, heard.positions_are) (again d now sized k l)
 
-  pub heard_places : (i : ℕ) (sh : Shape) → get_or (parts_of d) i Absent ≡ There sh → get_or positions (place_at d i).positions 0 < ring_length sh
+  pub heard_places : (i : ℕ) (sh : Shape) → get_or (parts_of d) i None ≡ Some sh → get_or positions (place_at d i).positions 0 < ring_length sh
   heard_places i sh e = rw heard.positions_are (places_below d now sized (after_below d w heard.columns (silence d) (silence_below d)) i sh e)
 
   pub heard_histories : length histories ≡ (sizes_of d).histories

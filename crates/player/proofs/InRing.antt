@@ -1,5 +1,6 @@
 -- Positions stay in their rings: of what the stages remember after a reset and any columns, each place is below its ring length. So no block is refused
 -- with 8. Assumes nothing.
+use Rattle.std.specs.Prelude.{None, Some}
 use mathlib.Core.Path.{◌≡◌, refl, sym, ◌∙◌, ap}
 use mathlib.Core.Bool.{Bool, true, false, cond}
 use mathlib.Core.List.{List, [], ◌∷◌, ◌++◌}
@@ -23,8 +24,7 @@ use Rattle.description.specs.Parts.{each_layer, head_rechannel_of, parts_of, rec
 use Rattle.description.specs.Sizes.{place_at, place_of}
 use Rattle.description.specs.declared.records.ArrayRecord.{ArrayRecord}
 use Rattle.description.specs.declared.records.LayerRecord.{LayerRecord}
-use Rattle.description.specs.declared.parts.Part.{Part}
-use Rattle.description.specs.declared.parts.Part.TheVariants.{Absent, There}
+use Rattle.description.specs.Part.{Part}
 use Rattle.description.specs.declared.places.Place.{Place}
 use Rattle.slot.specs.View.{memory_in}
 use Rattle.slot.specs.Steps.{pushed}
@@ -40,8 +40,8 @@ use Rattle.demands.proofs.StageParts.{part_is, parts_are, stage_length, stage_pa
 
 -- a part's place is in its ring
 unfoldable pub InRing : Part → Memory → Type 0
-InRing Absent s = Unit {0}
-InRing (There sh) s = s.place < ring_length sh
+InRing None s = Unit {0}
+InRing (Some sh) s = s.place < ring_length sh
 
 -- of parts and their memories, one by one
 unfoldable pub AllIn : List Part → List Memory → Type 0
@@ -50,7 +50,7 @@ AllIn [] (s ∷ ss) = ⊥
 AllIn (p ∷ ps) [] = ⊥
 AllIn (p ∷ ps) (s ∷ ss) = InRing p s × AllIn ps ss
 
-in_at : (ps : List Part) (ss : List Memory) → AllIn ps ss → (i : ℕ) → i < length ps → InRing (get_or ps i Absent) (get_or ss i none)
+in_at : (ps : List Part) (ss : List Memory) → AllIn ps ss → (i : ℕ) → i < length ps → InRing (get_or ps i None) (get_or ss i none)
 unfolding AllIn
 in_at [] [] h i l = absurd (not-suc-le-zero l)
 in_at [] (s ∷ ss) h i l = absurd h
@@ -58,7 +58,7 @@ in_at (p ∷ ps) [] h i l = absurd h
 in_at (p ∷ ps) (s ∷ ss) h zero l = h.0
 in_at (p ∷ ps) (s ∷ ss) h (suc i) l = in_at ps ss h.1 i (le_of_suc-le-suc l)
 
-in_by : (ps : List Part) (ss : List Memory) → length ss ≡ length ps → ((i : ℕ) → i < length ps → InRing (get_or ps i Absent) (get_or ss i none)) → AllIn ps ss
+in_by : (ps : List Part) (ss : List Memory) → length ss ≡ length ps → ((i : ℕ) → i < length ps → InRing (get_or ps i None) (get_or ss i none)) → AllIn ps ss
 unfolding AllIn
 in_by [] [] e h = tt
 in_by [] (s ∷ ss) e h = omega arith
@@ -84,10 +84,10 @@ next_in len at false e h = h
 
 pushed_in : (p : Part) (s : Memory) (x : ℕ → Float) → InRing p s → InRing p (pushed p s x)
 unfolding InRing pushed push next_place ring_length
-pushed_in Absent s x h = tt
-pushed_in (There sh) s x h = next_in _ s.place _ refl (omega arith)
+pushed_in None s x h = tt
+pushed_in (Some sh) s x h = next_in _ s.place _ refl (omega arith)
 
-pushed_if : (b : Bool) (p : Part) (s : Memory) (x : ℕ → Float) → InRing p s → InRing p (pushed (cond b p Absent) s x)
+pushed_if : (b : Bool) (p : Part) (s : Memory) (x : ℕ → Float) → InRing p s → InRing p (pushed (cond b p None) s x)
 unfolding pushed
 pushed_if true p s x h = pushed_in p s x h
 pushed_if false p s x h = h
@@ -100,7 +100,7 @@ module _ (a : ArrayRecord) (r : LayerRecord) (weights : ℕ → List Float) (x c
   after_in : (s : List Memory) → AllIn (slots_of a r) s → AllIn (slots_of a r) (column.after a r weights (memory_at s) x condition)
   unfolding AllIn slots_of column.after conv' mixin' layer1x1' head1x1'
   after_in s h =
-      let f : (j : ℕ) → j < 12 → InRing (get_or (slots_of a r) j Absent) (memory_at s j) = λ j l. in_at (slots_of a r) s h j l in
+      let f : (j : ℕ) → j < 12 → InRing (get_or (slots_of a r) j None) (memory_at s j) = λ j l. in_at (slots_of a r) s h j l in
       let g : (i : ℕ) → InRing (site_of a r i) (memory_at s (4 + i)) → InRing (site_of a r i) (site' a r weights (memory_at s) x condition i) = site_in (memory_at s) in (
         pushed_in _ _ _ (f 0 (omega arith)),
         (
@@ -168,8 +168,8 @@ module _ (d : List ℕ) (w : List Float) where
 -- ---- a reset
 silent_in : (p : Part) → InRing p (silent p)
 unfolding InRing silent ring_length
-silent_in Absent = tt
-silent_in (There sh) = omega arith
+silent_in None = tt
+silent_in (Some sh) = omega arith
 
 pub silence_below : (d : List ℕ) → Below d (silence d)
 unfolding Below silence
@@ -177,16 +177,16 @@ silence_below d k l =
     in_by (stage_parts d k) (tab (part_count d k) (λ j. silent (part_at d (first_part k + j)))) (length-tab (part_count d k) _ ∙ sym (stage_length d k))
     (λ j h. one j (rw (stage_length d k) at h))
   where
-    one : (j : ℕ) → j < part_count d k → InRing (get_or (stage_parts d k) j Absent) (get_or (tab (part_count d k) (λ j. silent (part_at d (first_part k + j)))) j none)
+    one : (j : ℕ) → j < part_count d k → InRing (get_or (stage_parts d k) j None) (get_or (tab (part_count d k) (λ j. silent (part_at d (first_part k + j)))) j none)
     one j h = rw (at-tab none (part_count d k) (λ j. silent (part_at d (first_part k + j))) j h, ← part_is d k j l h) (silent_in (part_at d (first_part k + j)))
 
 -- ---- the positions, joined end to end
-past_end : (ps : List Part) (i : ℕ) (sh : Shape) → get_or ps i Absent ≡ There sh → i < length ps
+past_end : (ps : List Part) (i : ℕ) (sh : Shape) → get_or ps i None ≡ Some sh → i < length ps
 past_end [] i sh e = absurd (let z : ◌≡◌ {A = ℕ} 0 1 = cc in omega arith)
 past_end (p ∷ ps) zero sh e = omega arith
 past_end (p ∷ ps) (suc i) sh e = let lt = past_end ps i sh e in omega (arith, lt)
 
-place_in_ring : (sh : Shape) (at : Place) (histories : List Float) (positions : List ℕ) (s : Memory) → memory_in (There sh) at histories positions ≡ s
+place_in_ring : (sh : Shape) (at : Place) (histories : List Float) (positions : List ℕ) (s : Memory) → memory_in (Some sh) at histories positions ≡ s
     → get_or positions at.positions 0 ≡ s.place
 unfolding memory_in
 place_in_ring sh at histories positions s e = ap (λ (s : Memory). s.place) e
@@ -200,15 +200,15 @@ module _ (d : List ℕ) (st : ℕ → List Memory) (sized : Sized d st) (below :
   unfolding all_memories
   all_fit = rw (parts_are d) at (fit_each (stage_parts d) st (stage_count d) sized)
 
-  read : (i : ℕ) (sh : Shape) → get_or (parts_of d) i Absent ≡ There sh
-      → memory_in (There sh) (place_of (take i (parts_of d))) (histories_from d st) (positions_from d st) ≡ get_or (all_memories d st) i none
+  read : (i : ℕ) (sh : Shape) → get_or (parts_of d) i None ≡ Some sh
+      → memory_in (Some sh) (place_of (take i (parts_of d))) (histories_from d st) (positions_from d st) ≡ get_or (all_memories d st) i none
   unfolding histories_from positions_from
   read i sh e = rw e at (read_again (parts_of d) (all_memories d st) all_fit i (past_end (parts_of d) i sh e))
 
-  place_in : (i : ℕ) (sh : Shape) → get_or (parts_of d) i Absent ≡ There sh → (get_or (all_memories d st) i none).place < ring_length sh
+  place_in : (i : ℕ) (sh : Shape) → get_or (parts_of d) i None ≡ Some sh → (get_or (all_memories d st) i none).place < ring_length sh
   unfolding InRing
   place_in i sh e = rw e at (in_at (parts_of d) (all_memories d st) all_in i (past_end (parts_of d) i sh e))
 
-  pub places_below : (i : ℕ) (sh : Shape) → get_or (parts_of d) i Absent ≡ There sh → get_or (positions_from d st) (place_at d i).positions 0 < ring_length sh
+  pub places_below : (i : ℕ) (sh : Shape) → get_or (parts_of d) i None ≡ Some sh → get_or (positions_from d st) (place_at d i).positions 0 < ring_length sh
   unfolding place_at
   places_below i sh e = rw (place_in_ring sh _ _ _ _ (read i sh e)) (place_in i sh e)

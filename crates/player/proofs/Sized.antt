@@ -1,4 +1,5 @@
 -- What a description that was not refused fits into. Assumes nothing.
+use Rattle.std.specs.Prelude.{Ok}
 use mathlib.Core.Path.{◌≡◌, sym, ◌∙◌, ap, subst}
 use mathlib.Core.List.{List}
 use Prim.Native.Nat.{ℕ, ◌*◌, ◌≤◌}
@@ -13,14 +14,12 @@ use Rattle.description.specs.Sizes.{sizes_of, widest_of}
 use Rattle.description.specs.declared.answers.Sizes.{Sizes}
 use Rattle.description.specs.declared.records.ArrayRecord.{ArrayRecord}
 use Rattle.description.proofs.Sound.{array_in_range, array_width_le, length_is, positions_most}
-use Rattle.description.specs.declared.answers.Checked.{Checked}
-use Rattle.description.specs.declared.answers.Checked.TheVariants.{Sound}
+use Rattle.description.specs.Checked.{Checked}
 use Rattle.reset.specs.Resets.{Resets}
 use Rattle.wna.specs.Header.{HeaderAnswers, LowHeader}
 use Rattle.wna.specs.Opening.{Described, Opened}
 use Rattle.wna.specs.declared.header.Header.{Header}
-use Rattle.wna.specs.declared.header.HeaderAnswer.{HeaderAnswer}
-use Rattle.wna.specs.declared.header.HeaderAnswer.TheVariants.{Whole}
+use Rattle.wna.specs.HeaderAnswer.{HeaderAnswer}
 use Rattle.wna.proofs.Facts.{header_low, opened_is}
 use Rattle.player.specs.Fits.{Fits, Ready, Suits, Wide}
 use Rattle.player.proofs.Hearing.{reset_heard, reset_passes}
@@ -80,8 +79,8 @@ module _ (d : List ℕ) (s : Sizes) (block : ℕ) (o : Opened d s block) where
   long = omega (arith, length_is d o.sound)
 
 -- what the answers tell, once their case is known
-pub low_by : (f : List ℕ) {r : HeaderAnswer} {h : Header} → HeaderAnswers f r → r ≡ Whole h → LowHeader h
+pub low_by : (f : List ℕ) {r : HeaderAnswer} {h : Header} → HeaderAnswers f r → r ≡ Ok h → LowHeader h
 low_by f a e = header_low f (subst (HeaderAnswers f) e a)
 
-pub opened_by : {numbers f numbers' : List ℕ} {block : ℕ} {r : Checked} {s : Sizes} → Described numbers f block r numbers' → r ≡ Sound s → Opened numbers' s block
+pub opened_by : {numbers f numbers' : List ℕ} {block : ℕ} {r : Checked} {s : Sizes} → Described numbers f block r numbers' → r ≡ Ok s → Opened numbers' s block
 opened_by {numbers} {f} {numbers'} {block} a e = opened_is (subst (λ (r : Checked). Described numbers f block r numbers') e a)

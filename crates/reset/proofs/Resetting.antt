@@ -1,4 +1,5 @@
 -- The record of a reset, from what its tests told. Assumes nothing.
+use Rattle.std.specs.Prelude.{Err, Ok}
 use mathlib.Core.Path.{◌≡◌, refl, sym, ◌∙◌, ap, subst}
 use mathlib.Core.Bool.{true, not, or-true}
 use mathlib.Core.List.{List}
@@ -7,26 +8,26 @@ use lib.Dec.{eqb}
 use lib.ListN.{length}
 use lib.Ieee.{Float}
 use borrow.Author.Tests.{eq-eqb, ne_eqb}
-use Rattle.description.specs.Answers.{Answers, number_of}
+use Rattle.description.specs.Answers.{Answers}
+use Rattle.refusal.specs.Number.{number_of}
 use Rattle.description.specs.Parts.{parts_of}
 use Rattle.description.specs.Refusals.{refusal_of}
 use Rattle.description.specs.Sizes.{histories_of, positions_of, sizes_of, total}
-use Rattle.description.specs.declared.answers.Checked.{Checked}
-use Rattle.description.specs.declared.answers.Checked.TheVariants.{Refused, Sound}
+use Rattle.description.specs.Checked.{Checked}
 use Rattle.description.specs.declared.answers.Sizes.{Sizes}
 use Rattle.description.proofs.Facts.{refused_only, sound_only}
 use Rattle.reset.specs.Resets.{Resets, refused7, reset_number, silence_of, starts_of}
 
 module _ (d : List ℕ) (histories : List Float) (positions : List ℕ) {checked : Checked} (answer : Answers d checked) where
   -- the description is refused
-  pub refused : {n r : ℕ} → checked ≡ Refused n → r ≡ number_of checked → Resets d histories positions r histories positions
+  pub refused : {n r : ℕ} → checked ≡ Err n → r ≡ number_of checked → Resets d histories positions r histories positions
   unfolding reset_number number_of
   refused {n} {r} e q =
       let a = refused_only d (subst (Answers d) e answer) in
       let r-is : r ≡ refusal_of d = q ∙ ap number_of e ∙ a.0 in
       record { number = rw a.1 r-is; silent = rw (r-is, a.1); rewound = rw (r-is, a.1) }
 
-  module _ {s : Sizes} (e : checked ≡ Sound s) where
+  module _ {s : Sizes} (e : checked ≡ Ok s) where
     sizes_is : (refusal_of d ≡ 0) × (s ≡ sizes_of d)
     sizes_is = sound_only d (subst (Answers d) e answer)
 

@@ -1,18 +1,17 @@
 -- Reset. Document 01, 'The recurrence' ("Reset: histories +0, positions ring length - 1") and 'Refusal numbers' 1 to 5 and 7.
-use Rattle.std.specs.Prelude.{◌≡◌, Bool, cond, not, ◌||◌, List, [], ◌∷◌, ◌++◌, ℕ, ◌-◌, eqb, length, replicate, Float}
+use Rattle.std.specs.Prelude.{◌≡◌, Bool, cond, not, ◌||◌, List, [], ◌∷◌, ◌++◌, ℕ, ◌-◌, eqb, length, replicate, Float, None, Some}
 use Rattle.std.specs.Float.{binary32}
 use Rattle.std.specs.Float.Ieee.{of_bits}
 use Rattle.shape.specs.Counts.{ring_length}
 use Rattle.description.specs.Parts.{parts_of}
 use Rattle.description.specs.Sizes.{histories_of, positions_of, total}
 use Rattle.description.specs.Refusals.{refusal_of}
-use Rattle.description.specs.declared.parts.Part.{Part}
-use Rattle.description.specs.declared.parts.Part.TheVariants.{Absent, There}
+use Rattle.description.specs.Part.{Part}
 
 -- a part's position: ring length - 1
 unfoldable pub start_of : Part → List ℕ
-start_of Absent = []
-start_of (There sh) = (ring_length sh - 1) ∷ []
+start_of None = []
+start_of (Some sh) = (ring_length sh - 1) ∷ []
 
 -- the positions of parts, in their order
 unfoldable pub starts_of : List Part → List ℕ

@@ -1,4 +1,5 @@
 -- A convolution on its parts of the buffers does to its own memory what the recurrence does, and to nothing else. Assumes nothing.
+use Rattle.std.specs.Prelude.{Some}
 use mathlib.Core.Path.{◌≡◌, refl, ◌∙◌, ap}
 use mathlib.Core.List.{List}
 use Prim.Native.Nat.{ℕ, ◌+◌, ◌-◌, ◌<◌}
@@ -18,7 +19,6 @@ use Rattle.column.specs.Recurrence.{remembered}
 use Rattle.conv.specs.Fits.{ConvFits}
 use Rattle.conv.specs.Does.{Convolved}
 use Rattle.description.specs.Sizes.{weights_of}
-use Rattle.description.specs.declared.parts.Part.TheVariants.{There}
 use Rattle.description.specs.declared.places.Place.{Place}
 use Rattle.slot.specs.View.{weights_in, memory_in}
 use Rattle.slot.specs.Play.{PlayFits, Played}
@@ -53,7 +53,7 @@ module _ (sh : Shape) (at : Place) (p m nwork np x out rows : ℕ) (histories we
   own_is : own ≡ part at.histories (history_count sh) histories
   own_is = rw (end_start at.histories hc, hc-is)
 
-  weights_are : take (at.weights + wc - at.weights) (drop at.weights weights) ≡ weights_in (There sh) at weights
+  weights_are : take (at.weights + wc - at.weights) (drop at.weights weights) ≡ weights_in (Some sh) at weights
   unfolding weights_in weights_of
   weights_are = rw (end_start at.weights wc, wc-is)
 
@@ -93,11 +93,11 @@ module _ (sh : Shape) (at : Place) (p m nwork np x out rows : ℕ) (histories we
         rw (end_start at.histories hc, hc-is, part_put nan at.histories (history_count sh) histories last f.histories_in last_long, get_or-set_same positions i q 0 h)
 
     module _ (positions : List ℕ) (p_is : p ≡ get_or positions at.positions 0) (np-is : np ≡ length positions) where
-      memory_was : record { history = own; place = p } ≡ memory_in (There sh) at histories positions
+      memory_was : record { history = own; place = p } ≡ memory_in (Some sh) at histories positions
       unfolding memory_in
       memory_was = rw (own_is, p_is)
 
-      memory_now : memory_in (There sh) at (put_mid at.histories (at.histories + hc - at.histories) histories last) (set positions at.positions q)
+      memory_now : memory_in (Some sh) at (put_mid at.histories (at.histories + hc - at.histories) histories last) (set positions at.positions q)
           ≡ record { history = last; place = q }
       unfolding memory_in
       memory_now = memory_is positions at.positions (omega (arith, f.positions_in, np-is))

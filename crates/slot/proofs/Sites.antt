@@ -1,4 +1,5 @@
 -- A FiLM site over a block does to each column what the recurrence does: the convolution's laws, then the modulation's. Assumes nothing.
+use Rattle.std.specs.Prelude.{None, Some}
 use mathlib.Core.Path.{◌≡◌, refl, sym, ◌∙◌, ap}
 use mathlib.Core.Bool.{Bool, true, false, cond}
 use mathlib.Core.List.{List}
@@ -17,8 +18,7 @@ use Rattle.film.specs.Modulated.{filmed}
 use Rattle.film.specs.Fits.{FilmFits}
 use Rattle.film.proofs.Agree.{filmed_holds}
 use Rattle.description.specs.Sizes.{histories_of, positions_of}
-use Rattle.description.specs.declared.parts.Part.{Part}
-use Rattle.description.specs.declared.parts.Part.TheVariants.{Absent, There}
+use Rattle.description.specs.Part.{Part}
 use Rattle.description.specs.declared.places.Place.{Place}
 use Rattle.slot.specs.View.{weights_in, memory_in}
 use Rattle.slot.specs.Steps.{pushed, sited, pushed_all}
@@ -26,24 +26,24 @@ use Rattle.slot.specs.Play.{Played}
 use Rattle.slot.specs.Site.{SiteThere, result_at, Sited}
 
 -- ---- what a part remembers after some columns
-pub pushed_absent : (f : ℕ → ℕ → Float) (s : Memory) (t : ℕ) → pushed_all Absent f s t ≡ s
+pub pushed_absent : (f : ℕ → ℕ → Float) (s : Memory) (t : ℕ) → pushed_all None f s t ≡ s
 unfolding pushed_all pushed
 pushed_absent f s zero = refl
 pushed_absent f s (suc t) = pushed_absent f s t
 
-pub pushed_there : (sh : Shape) (f : ℕ → ℕ → Float) (s : Memory) (t : ℕ) → pushed_all (There sh) f s t ≡ remembered sh f s t
+pub pushed_there : (sh : Shape) (f : ℕ → ℕ → Float) (s : Memory) (t : ℕ) → pushed_all (Some sh) f s t ≡ remembered sh f s t
 unfolding pushed_all pushed after
 pushed_there sh f s zero = refl
 pushed_there sh f s (suc t) = ap (λ (r : Memory). push sh.ins (ring_length sh) r (f t)) (pushed_there sh f s t)
 
 -- ---- the site is not there
 module _ (part : Part) (shifted : Bool) (at : Place) (weights : List Float) (w width m condition from to s rows : ℕ) (work histories : List Float) (positions : List ℕ) where
-  pub site_absent : part ≡ Absent → Sited part shifted at weights w width m condition from to s rows from work histories positions work histories positions
+  pub site_absent : part ≡ None → Sited part shifted at weights w width m condition from to s rows from work histories positions work histories positions
   unfolding result_at sited
   site_absent e = rw e (record {
     there = refl;
     outs = λ v f hv hf. hv;
-    memory = λ f hf. sym (pushed_absent f (memory_in Absent at histories positions) m);
+    memory = λ f hf. sym (pushed_absent f (memory_in None at histories positions) m);
     others = free_self;
     histories_kept = free_self;
     positions_kept = free_self;
@@ -101,7 +101,7 @@ module _ {sh : Shape} {shifted : Bool} {at : Place} {p w width m nwork nhistorie
 
 -- between: work past the convolution; from-fits: the columns at `from` lie apart from what the convolution changes
 module _ {part : Part} {sh : Shape} {shifted : Bool} {at : Place} {p w width m nhistories npositions nweights condition from s rows : ℕ}
-    {weights work histories between histories' : List Float} {positions positions' : List ℕ} (to : ℕ) (work' : List Float) (is : part ≡ There sh)
+    {weights work histories between histories' : List Float} {positions positions' : List ℕ} (to : ℕ) (work' : List Float) (is : part ≡ Some sh)
     (fits : SiteThere sh shifted at p w width m (length work) nhistories npositions nweights condition from s rows) (to_in : to + w * m ≤ length work)
     (played : Played sh at weights m condition s rows work histories positions between histories' positions')
     (film : work' ≡ fill to (w * m) (filmed shifted s (w * m) between from) between) where
@@ -110,18 +110,18 @@ module _ {part : Part} {sh : Shape} {shifted : Bool} {at : Place} {p w width m n
   rows_of v h = record { is = λ c t hc ht. h.is c t (omega (arith, hc, fits.ins_are)) ht }
 
   gives : (ℕ → ℕ → Float) → ℕ → ℕ → Float
-  gives f o t = output sh (weights_in (There sh) at weights) (pushed_all (There sh) f (memory_in (There sh) at histories positions) (suc t)) o
+  gives f o t = output sh (weights_in (Some sh) at weights) (pushed_all (Some sh) f (memory_in (Some sh) at histories positions) (suc t)) o
 
   given : (f : ℕ → ℕ → Float) → Holds condition width m (λ c t. f t c) work → Holds s sh.outs m (gives f) between
   unfolding gives
   given f h = record {
     is = λ o t ho ht.
         (played.outs f (rows_of _ h)).is o t ho ht
-        ∙ ap (λ (r : Memory). output sh (weights_in (There sh) at weights) r o) (sym (pushed_there sh f (memory_in (There sh) at histories positions) (suc t)));
+        ∙ ap (λ (r : Memory). output sh (weights_in (Some sh) at weights) r o) (sym (pushed_there sh f (memory_in (Some sh) at histories positions) (suc t)));
   }
 
   outs : (v f : ℕ → ℕ → Float) → Holds from w m (λ c t. v t c) work → Holds condition width m (λ c t. f t c) work
-      → Holds to w m (λ c t. sited (There sh) shifted w (weights_in (There sh) at weights) (pushed_all (There sh) f (memory_in (There sh) at histories positions) (suc t)) (v t) c) work'
+      → Holds to w m (λ c t. sited (Some sh) shifted w (weights_in (Some sh) at weights) (pushed_all (Some sh) f (memory_in (Some sh) at histories positions) (suc t)) (v t) c) work'
   unfolding sited gives
   outs v f hv hf =
       let g = outs_given shifted sh.outs w m fits.outs_are in
@@ -139,7 +139,7 @@ module _ {part : Part} {sh : Shape} {shifted : Bool} {at : Place} {p w width m n
       rw is (record {
         there = refl;
         outs = outs;
-        memory = λ f hf. played.memory f (rows_of _ hf) ∙ sym (pushed_there sh f (memory_in (There sh) at histories positions) m);
+        memory = λ f hf. played.memory f (rows_of _ hf) ∙ sym (pushed_there sh f (memory_in (Some sh) at histories positions) m);
         others = free_then played.others (fill_free nan to (w * m) _ between work' film)
             (λ i r. (omega (arith, g.all_in, r.1), omega (arith, e, r.2))) (λ i r. r.0);
         histories_kept = played.histories_kept;

@@ -1,12 +1,11 @@
 -- A convolution on its parts of all buffers: what it asks, and what it does.
-use Rattle.std.specs.Prelude.{◌≡◌, List, ℕ, suc, ◌+◌, ◌*◌, ◌≤◌, ◌<◌, Float}
+use Rattle.std.specs.Prelude.{◌≡◌, List, ℕ, suc, ◌+◌, ◌*◌, ◌≤◌, ◌<◌, Float, Some}
 use Rattle.std.specs.Float.{nan}
 use Rattle.lists.specs.Region.{Apart, Holds, Free}
 use Rattle.shape.specs.declared.Shape.{Shape}
 use Rattle.shape.specs.Counts.{InRange, ring_length, weight_count, history_count}
 use Rattle.shape.specs.Groups.{Divided}
 use Rattle.column.specs.Recurrence.{output, remembered}
-use Rattle.description.specs.declared.parts.Part.TheVariants.{There}
 use Rattle.description.specs.declared.places.Place.{Place}
 use Rattle.slot.specs.View.{weights_in, memory_in}
 
@@ -29,9 +28,9 @@ pub record PlayFits (sh : Shape) (at : Place) (p m nwork nhistories npositions n
 pub record Played (sh : Shape) (at : Place) (weights : List Float) (m x out rows : ℕ) (work histories : List Float) (positions : List ℕ)
     (work' histories' : List Float) (positions' : List ℕ) : Type 0 where
   pub outs : (f : ℕ → ℕ → Float) → Holds x sh.ins m (λ c t. f t c) work
-      → Holds out sh.outs m (λ o t. output sh (weights_in (There sh) at weights) (remembered sh f (memory_in (There sh) at histories positions) (suc t)) o) work'
+      → Holds out sh.outs m (λ o t. output sh (weights_in (Some sh) at weights) (remembered sh f (memory_in (Some sh) at histories positions) (suc t)) o) work'
   pub memory : (f : ℕ → ℕ → Float) → Holds x sh.ins m (λ c t. f t c) work
-      → memory_in (There sh) at histories' positions' ≡ remembered sh f (memory_in (There sh) at histories positions) m
+      → memory_in (Some sh) at histories' positions' ≡ remembered sh f (memory_in (Some sh) at histories positions) m
   pub others : Free nan (λ i. Apart out (sh.outs * m) i 1 × Apart rows (sh.ins * m) i 1) work work'
   pub histories_kept : Free nan (λ i. Apart at.histories (history_count sh) i 1) histories histories'
   pub positions_kept : Free 0 (λ i. Apart at.positions 1 i 1) positions positions'

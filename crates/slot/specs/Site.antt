@@ -1,11 +1,10 @@
 -- A FiLM site over a block of columns: what it asks, and what it does.
-use Rattle.std.specs.Prelude.{◌≡◌, Bool, cond, List, ℕ, suc, ◌+◌, ◌*◌, ◌≤◌, Float}
+use Rattle.std.specs.Prelude.{◌≡◌, Bool, cond, List, ℕ, suc, ◌+◌, ◌*◌, ◌≤◌, Float, None, Some}
 use Rattle.std.specs.Float.{nan}
 use Rattle.lists.specs.Region.{Apart, Holds, Free}
 use Rattle.shape.specs.declared.Shape.{Shape}
 use Rattle.description.specs.Sizes.{histories_of, positions_of}
-use Rattle.description.specs.declared.parts.Part.{Part}
-use Rattle.description.specs.declared.parts.Part.TheVariants.{Absent, There}
+use Rattle.description.specs.Part.{Part}
 use Rattle.description.specs.declared.places.Place.{Place}
 use Rattle.slot.specs.View.{weights_in, memory_in}
 use Rattle.slot.specs.Steps.{sited, pushed_all}
@@ -22,13 +21,13 @@ pub record SiteThere (sh : Shape) (shifted : Bool) (at : Place) (p w width m nwo
 -- for a part that may be absent
 pub record SiteFits (part : Part) (shifted : Bool) (at : Place) (p w width m nwork nhistories npositions nweights condition to s rows : ℕ) : Type 0 where
   pub to_in : to + w * m ≤ nwork
-  pub there : (sh : Shape) → part ≡ There sh → SiteThere sh shifted at p w width m nwork nhistories npositions nweights condition to s rows
+  pub there : (sh : Shape) → part ≡ Some sh → SiteThere sh shifted at p w width m nwork nhistories npositions nweights condition to s rows
   pub small : nwork ≤ 0xffff_ffff
 
 -- where the columns past a site are: at `to`, or, where it is absent, still at `from`
 unfoldable pub result_at : Part → ℕ → ℕ → ℕ
-result_at Absent to from = from
-result_at (There sh) to from = to
+result_at None to from = from
+result_at (Some sh) to from = to
 
 -- whichever columns the condition's region and the region at `from` held: past the site they are at `result`
 pub record Sited (part : Part) (shifted : Bool) (at : Place) (weights : List Float) (w width m condition from to s rows result : ℕ) (work histories : List Float) (positions : List ℕ)

@@ -1,4 +1,5 @@
 -- Stage 0: the steps of its turn are a turn by the definition. Assumes nothing.
+use Rattle.std.specs.Prelude.{None, Some}
 use mathlib.Core.Path.{◌≡◌, refl, sym, ◌∙◌, ap, subst}
 use mathlib.Core.List.{List, [], ◌∷◌}
 use Prim.Native.Nat.{ℕ, ◌+◌, ◌*◌, ◌≤◌, ◌<◌}
@@ -22,8 +23,7 @@ use Rattle.description.specs.Numbers.{layer_count}
 use Rattle.description.specs.Parts.{parts_of, rechannel_of}
 use Rattle.description.specs.Records.{array_of}
 use Rattle.description.specs.Sizes.{place_at, widest_of, histories_of, positions_of, past_of}
-use Rattle.description.specs.declared.parts.Part.{Part}
-use Rattle.description.specs.declared.parts.Part.TheVariants.{Absent, There}
+use Rattle.description.specs.Part.{Part}
 use Rattle.description.specs.declared.places.Place.{Place}
 use Rattle.description.specs.declared.records.ArrayRecord.{ArrayRecord}
 use Rattle.description.specs.Refusals.{refusal_of}
@@ -45,7 +45,7 @@ use Rattle.stage.proofs.Widths.{Room, array_room, part_fits}
 use Rattle.stage.proofs.Single.{single_remembers, single_gives}
 
 module _ {d : List ℕ} {weights : List Float} (input headIn : List Float) {span : Span} {start : Place} {h0 h1 : List Float} (w0 w1 w2 w3 w4 : List Float) {p0 p1 : List ℕ} {sh : Shape}
-    (fits : StageFits d span 0 start (length weights) (length h0) p0 (length w0)) (is : rechannel_of (array_of d) ≡ There sh)
+    (fits : StageFits d span 0 start (length weights) (length h0) p0 (length w0)) (is : rechannel_of (array_of d) ≡ Some sh)
     (s1 : w1 ≡ rows (2 * span.size) span.count span.count (array_of d).input (λ c t. at input (span.from + c * span.n + t)) w0)
     (s2 : Played sh start weights span.count (2 * span.size) (3 * span.size) (4 * span.size) w1 h0 p0 w2 h1 p1)
     (s3 : w3 ≡ rows span.from span.n span.count (array_of d).channels (λ c t. at w2 (3 * span.size + c * span.count + t)) w2)
@@ -99,22 +99,22 @@ module _ {d : List ℕ} {weights : List Float} (input headIn : List Float) {span
   long3 = rw s3 (length-rows from n count channels _ w2 ∙ long2)
 
   -- the stage has one part
-  first_next : start_of d 1 ≡ past_of start (There sh)
+  first_next : start_of d 1 ≡ past_of start (Some sh)
   unfolding first_part
   first_next = place_next d 0 (omega (arith, length-parts d)) ∙ rw (part_first d, is, fits.start_is)
 
-  part_is : get_or (parts_of d) 0 Absent ≡ There sh
+  part_is : get_or (parts_of d) 0 None ≡ Some sh
   part_is = part_first d ∙ is
 
-  remembers : (h : List Float) (p : List ℕ) → memories_of d h p 0 ≡ memory_in (There sh) start h p ∷ []
+  remembers : (h : List Float) (p : List ℕ) → memories_of d h p 0 ≡ memory_in (Some sh) start h p ∷ []
   unfolding memories_of memory_of_part part_at part_count first_part tab
   remembers h p = rw (fits.start_is, part_is)
 
-  weights_are : weights_of_part d weights 0 ≡ weights_in (There sh) start weights
+  weights_are : weights_of_part d weights 0 ≡ weights_in (Some sh) start weights
   unfolding weights_of_part part_at first_part
   weights_are = rw (fits.start_is, part_is)
 
-  pushes : (s : List Memory) (v : Column) → next d weights 0 s v ≡ pushed (There sh) (memory_at s 0) (at v.signal) ∷ []
+  pushes : (s : List Memory) (v : Column) → next d weights 0 s v ≡ pushed (Some sh) (memory_at s 0) (at v.signal) ∷ []
   unfolding next
   pushes s v = rw is
 
@@ -157,7 +157,7 @@ module _ {d : List ℕ} {weights : List Float} (input headIn : List Float) {span
 
     -- the columns of the turn, as the convolution gave them
     abbrev given : ℕ → ℕ → Float
-    given c t = convolved (There sh) (weights_in (There sh) start weights) (pushed (There sh) (memory_at (run t) 0) (at (entering b n e0 0 (from + t)).signal)) c
+    given c t = convolved (Some sh) (weights_in (Some sh) start weights) (pushed (Some sh) (memory_at (run t) 0) (at (entering b n e0 0 (from + t)).signal)) c
 
     gives : Strip from n channels count given w4
     gives =
@@ -219,11 +219,11 @@ module _ {d : List ℕ} {weights : List Float} (input headIn : List Float) {span
       let room : start.histories + history_count sh ≤ length h0 = rw fits.start_is (part_fits fits 0 sh part_is).1 in
       rw fits.start_is at (place_stays s2 room before)
 
-  own : (i : ℕ) (sh' : Shape) → first_part 0 ≤ i → i < first_part 1 → get_or (parts_of d) i Absent ≡ There sh' → get_or p1 (place_at d i).positions 0 < ring_length sh'
+  own : (i : ℕ) (sh' : Shape) → first_part 0 ≤ i → i < first_part 1 → get_or (parts_of d) i None ≡ Some sh' → get_or p1 (place_at d i).positions 0 < ring_length sh'
   unfolding first_part
   own i sh' lo hi q =
       let z : i ≡ 0 = omega (arith, hi) in
-      let same : There sh ≡ There sh' = sym part_is ∙ (rw z at q) in
+      let same : Some sh ≡ Some sh' = sym part_is ∙ (rw z at q) in
       let e : sh ≡ sh' = cc in
       rw (z, ← e) at_0
 
@@ -232,27 +232,27 @@ module _ {d : List ℕ} {weights : List Float} (input headIn : List Float) {span
 
 -- the same of a record that is the description's, as the code reads it
 pub entry_turn : {d : List ℕ} {weights : List Float} (input headIn : List Float) {span : Span} {start : Place} {h0 h1 : List Float} (w0 w1 w2 w3 w4 : List Float) {p0 p1 : List ℕ} {sh : Shape}
-    (a : ArrayRecord) → a ≡ array_of d → StageFits d span 0 start (length weights) (length h0) p0 (length w0) → rechannel_of a ≡ There sh
+    (a : ArrayRecord) → a ≡ array_of d → StageFits d span 0 start (length weights) (length h0) p0 (length w0) → rechannel_of a ≡ Some sh
     → w1 ≡ rows (2 * span.size) span.count span.count a.input (λ c t. at input (span.from + c * span.n + t)) w0
     → Played sh start weights span.count (2 * span.size) (3 * span.size) (4 * span.size) w1 h0 p0 w2 h1 p1
     → w3 ≡ rows span.from span.n span.count a.channels (λ c t. at w2 (3 * span.size + c * span.count + t)) w2
     → w4 ≡ rows (span.size + span.from) span.n span.count a.head_in (λ c t. at headIn (span.from + c * span.n + t)) w3
-    → (past_of start (There sh) ≡ start_of d 1) × FirstTurn d weights span h0 p0 w0 h1 p1 w4 input headIn
+    → (past_of start (Some sh) ≡ start_of d 1) × FirstTurn d weights span h0 p0 w0 h1 p1 w4 input headIn
 entry_turn {d} {weights} input headIn {span} {start} {h0} {h1} w0 w1 w2 w3 w4 {p0} {p1} {sh} a e fits =
-    subst (λ (a : ArrayRecord). rechannel_of a ≡ There sh
+    subst (λ (a : ArrayRecord). rechannel_of a ≡ Some sh
     → w1 ≡ rows (2 * span.size) span.count span.count a.input (λ c t. at input (span.from + c * span.n + t)) w0
     → Played sh start weights span.count (2 * span.size) (3 * span.size) (4 * span.size) w1 h0 p0 w2 h1 p1
     → w3 ≡ rows span.from span.n span.count a.channels (λ c t. at w2 (3 * span.size + c * span.count + t)) w2
     → w4 ≡ rows (span.size + span.from) span.n span.count a.head_in (λ c t. at headIn (span.from + c * span.n + t)) w3
-    → (past_of start (There sh) ≡ start_of d 1) × FirstTurn d weights span h0 p0 w0 h1 p1 w4 input headIn)
+    → (past_of start (Some sh) ≡ start_of d 1) × FirstTurn d weights span h0 p0 w0 h1 p1 w4 input headIn)
     (sym e)
     (λ is s1 s2 s3 s4. (sym (first_next input headIn w0 w1 w2 w3 w4 fits is s1 s2 s3 s4), first_is input headIn w0 w1 w2 w3 w4 fits is s1 s2 s3 s4))
 
 -- the rechannel as a part, and its widths
-pub rechannel_part : (d : List ℕ) {a : ArrayRecord} {sh : Shape} → a ≡ array_of d → rechannel_of a ≡ There sh → get_or (parts_of d) 0 Absent ≡ There sh
+pub rechannel_part : (d : List ℕ) {a : ArrayRecord} {sh : Shape} → a ≡ array_of d → rechannel_of a ≡ Some sh → get_or (parts_of d) 0 None ≡ Some sh
 rechannel_part d e is = part_first d ∙ ap rechannel_of (sym e) ∙ is
 
-pub rechannel_widths : (d : List ℕ) {a : ArrayRecord} {sh : Shape} → refusal_of d ≡ 0 → a ≡ array_of d → rechannel_of a ≡ There sh
+pub rechannel_widths : (d : List ℕ) {a : ArrayRecord} {sh : Shape} → refusal_of d ≡ 0 → a ≡ array_of d → rechannel_of a ≡ Some sh
     → (sh.ins ≤ widest_of d) × (sh.outs ≤ widest_of d)
 unfolding ins_of outs_of rechannel_of
 rechannel_widths d ok e is =
@@ -260,7 +260,7 @@ rechannel_widths d ok e is =
     let o = sym (ap outs_of is) ∙ ap (λ (a : ArrayRecord). a.channels) e in
     (omega (arith, i, array_width_le d ok 0), omega (arith, o, array_width_le d ok 2))
 
-pub rechannel_there : (a : ArrayRecord) {p : Part} → p ≡ rechannel_of a → p ≡ Absent → ⊥
+pub rechannel_there : (a : ArrayRecord) {p : Part} → p ≡ rechannel_of a → p ≡ None → ⊥
 unfolding rechannel_of
 rechannel_there a e z = not_both (sym z ∙ e)
 

@@ -1,4 +1,5 @@
 -- Stage L + 1: the steps of its turn are a turn by the definition. Assumes nothing.
+use Rattle.std.specs.Prelude.{None, Some}
 use mathlib.Core.Path.{◌≡◌, sym, ◌∙◌, ap, subst}
 use mathlib.Core.List.{List, [], ◌∷◌}
 use Prim.Native.Nat.{ℕ, suc, ◌+◌, ◌*◌, ◌≤◌, ◌<◌}
@@ -22,8 +23,7 @@ use Rattle.description.specs.Numbers.{layer_count}
 use Rattle.description.specs.Parts.{parts_of, head_rechannel_of}
 use Rattle.description.specs.Records.{array_of}
 use Rattle.description.specs.Sizes.{place_at, place_of, widest_of, histories_of, positions_of, past_of}
-use Rattle.description.specs.declared.parts.Part.{Part}
-use Rattle.description.specs.declared.parts.Part.TheVariants.{Absent, There}
+use Rattle.description.specs.Part.{Part}
 use Rattle.description.specs.declared.places.Place.{Place}
 use Rattle.description.specs.declared.records.ArrayRecord.{ArrayRecord}
 use Rattle.description.specs.Refusals.{refusal_of}
@@ -45,7 +45,7 @@ use Rattle.stage.proofs.Widths.{Room, array_room, part_fits}
 use Rattle.stage.proofs.Single.{single_remembers, single_gives}
 
 module _ {d : List ℕ} {weights : List Float} {span : Span} {start : Place} {h0 h1 : List Float} (w0 w1 w2 head0 array0 head1 array1 : List Float) {p0 p1 : List ℕ} {sh : Shape}
-    (fits : StageFits d span (suc (layer_count d)) start (length weights) (length h0) p0 (length w0)) (is : head_rechannel_of (array_of d) ≡ There sh)
+    (fits : StageFits d span (suc (layer_count d)) start (length weights) (length h0) p0 (length w0)) (is : head_rechannel_of (array_of d) ≡ Some sh)
     (head_long : length head0 ≡ (array_of d).head_size * span.n) (array_long : length array0 ≡ (array_of d).channels * span.n)
     (s1 : w1 ≡ rows (3 * span.size) span.count span.count (array_of d).head_in (λ c t. at w0 (span.size + span.from + c * span.n + t)) w0)
     (s2 : Played sh start weights span.count (3 * span.size) (4 * span.size) (5 * span.size) w1 h0 p0 w2 h1 p1)
@@ -90,11 +90,11 @@ module _ {d : List ℕ} {weights : List Float} {span : Span} {start : Place} {h0
   room_head = array_room fits 3
 
   -- the stage has one part
-  part_is : get_or (parts_of d) (first_part k) Absent ≡ There sh
+  part_is : get_or (parts_of d) (first_part k) None ≡ Some sh
   unfolding first_part
   part_is = let e : 1 + 12 * layer_count d ≡ 12 * layer_count d + 1 = omega arith in rw e (part_last d ∙ is)
 
-  last_next : start_of d (suc k) ≡ past_of start (There sh)
+  last_next : start_of d (suc k) ≡ past_of start (Some sh)
   unfolding place_at first_part
   last_next =
       let far : length (parts_of d) ≤ 1 + 12 * suc (layer_count d) = omega (arith, length-parts d) in
@@ -103,15 +103,15 @@ module _ {d : List ℕ} {weights : List Float} {span : Span} {start : Place} {h0
       ∙ place_next d (1 + 12 * layer_count d) (omega (arith, length-parts d))
       ∙ rw (fits.start_is, part_is)
 
-  remembers : (h : List Float) (p : List ℕ) → memories_of d h p k ≡ memory_in (There sh) start h p ∷ []
+  remembers : (h : List Float) (p : List ℕ) → memories_of d h p k ≡ memory_in (Some sh) start h p ∷ []
   unfolding memories_of memory_of_part part_at part_count tab
   remembers h p = rw (le-ltb (layer_count d) (layer_count d) (omega arith), add-zero (first_part k), fits.start_is, part_is)
 
-  weights_are : weights_of_part d weights (1 + 12 * layer_count d) ≡ weights_in (There sh) start weights
+  weights_are : weights_of_part d weights (1 + 12 * layer_count d) ≡ weights_in (Some sh) start weights
   unfolding weights_of_part part_at first_part
   weights_are = rw (fits.start_is, part_is)
 
-  pushes : (s : List Memory) (v : Column) → next d weights k s v ≡ pushed (There sh) (memory_at s 0) (at v.accumulator) ∷ []
+  pushes : (s : List Memory) (v : Column) → next d weights k s v ≡ pushed (Some sh) (memory_at s 0) (at v.accumulator) ∷ []
   unfolding next
   pushes s v = rw (le-ltb (layer_count d) (layer_count d) (omega arith), is)
 
@@ -149,7 +149,7 @@ module _ {d : List ℕ} {weights : List Float} {span : Span} {start : Place} {h0
 
     -- the columns of the turn, as the convolution gave them
     abbrev given : ℕ → ℕ → Float
-    given c t = convolved (There sh) (weights_in (There sh) start weights) (pushed (There sh) (memory_at (run t) 0) (at (entering b n e0 k (from + t)).accumulator)) c
+    given c t = convolved (Some sh) (weights_in (Some sh) start weights) (pushed (Some sh) (memory_at (run t) 0) (at (entering b n e0 k (from + t)).accumulator)) c
 
     gives : Strip from n outs count given head1
     gives =
@@ -204,11 +204,11 @@ module _ {d : List ℕ} {weights : List Float} {span : Span} {start : Place} {h0
       let room : start.histories + history_count sh ≤ length h0 = rw fits.start_is (part_fits fits (first_part k) sh part_is).1 in
       rw fits.start_is at (place_stays s2 room before)
 
-  own : (i : ℕ) (sh' : Shape) → first_part k ≤ i → i < first_part (suc k) → get_or (parts_of d) i Absent ≡ There sh' → get_or p1 (place_at d i).positions 0 < ring_length sh'
+  own : (i : ℕ) (sh' : Shape) → first_part k ≤ i → i < first_part (suc k) → get_or (parts_of d) i None ≡ Some sh' → get_or p1 (place_at d i).positions 0 < ring_length sh'
   unfolding first_part
   own i sh' lo hi q =
       let z : i ≡ first_part k = omega (arith, lo, number_in (parts_of d) i sh' q, length-parts d) in
-      let same : There sh ≡ There sh' = sym part_is ∙ (rw z at q) in
+      let same : Some sh ≡ Some sh' = sym part_is ∙ (rw z at q) in
       let e : sh ≡ sh' = cc in
       rw (z, ← e) at_last
 
@@ -218,19 +218,19 @@ module _ {d : List ℕ} {weights : List Float} {span : Span} {start : Place} {h0
 -- the same of a record that is the description's, as the code reads it
 pub exit_turn : {d : List ℕ} {weights : List Float} {span : Span} {start : Place} {h0 h1 : List Float} (w0 w1 w2 head0 array0 head1 array1 : List Float) {p0 p1 : List ℕ} {sh : Shape}
     (a : ArrayRecord) → a ≡ array_of d → StageFits d span (suc (layer_count d)) start (length weights) (length h0) p0 (length w0)
-    → length head0 ≡ (array_of d).head_size * span.n → length array0 ≡ (array_of d).channels * span.n → head_rechannel_of a ≡ There sh
+    → length head0 ≡ (array_of d).head_size * span.n → length array0 ≡ (array_of d).channels * span.n → head_rechannel_of a ≡ Some sh
     → w1 ≡ rows (3 * span.size) span.count span.count a.head_in (λ c t. at w0 (span.size + span.from + c * span.n + t)) w0
     → Played sh start weights span.count (3 * span.size) (4 * span.size) (5 * span.size) w1 h0 p0 w2 h1 p1
     → head1 ≡ rows span.from span.n span.count a.head_size (λ c t. at w2 (4 * span.size + c * span.count + t)) head0
     → array1 ≡ rows span.from span.n span.count a.channels (λ c t. at w2 (span.from + c * span.n + t)) array0
-    → (past_of start (There sh) ≡ start_of d (suc (suc (layer_count d)))) × LastTurn d weights span h0 p0 w0 h1 p1 w2 head0 array0 head1 array1
+    → (past_of start (Some sh) ≡ start_of d (suc (suc (layer_count d)))) × LastTurn d weights span h0 p0 w0 h1 p1 w2 head0 array0 head1 array1
 exit_turn {d} {weights} {span} {start} {h0} {h1} w0 w1 w2 head0 array0 head1 array1 {p0} {p1} {sh} a e fits head_long array_long =
-    subst (λ (a : ArrayRecord). head_rechannel_of a ≡ There sh
+    subst (λ (a : ArrayRecord). head_rechannel_of a ≡ Some sh
     → w1 ≡ rows (3 * span.size) span.count span.count a.head_in (λ c t. at w0 (span.size + span.from + c * span.n + t)) w0
     → Played sh start weights span.count (3 * span.size) (4 * span.size) (5 * span.size) w1 h0 p0 w2 h1 p1
     → head1 ≡ rows span.from span.n span.count a.head_size (λ c t. at w2 (4 * span.size + c * span.count + t)) head0
     → array1 ≡ rows span.from span.n span.count a.channels (λ c t. at w2 (span.from + c * span.n + t)) array0
-    → (past_of start (There sh) ≡ start_of d (suc (suc (layer_count d)))) × LastTurn d weights span h0 p0 w0 h1 p1 w2 head0 array0 head1 array1)
+    → (past_of start (Some sh) ≡ start_of d (suc (suc (layer_count d)))) × LastTurn d weights span h0 p0 w0 h1 p1 w2 head0 array0 head1 array1)
     (sym e)
     (λ is s1 s2 s3 s4. (
       sym (last_next w0 w1 w2 head0 array0 head1 array1 fits is head_long array_long s1 s2 s3 s4),
@@ -238,11 +238,11 @@ exit_turn {d} {weights} {span} {start} {h0} {h1} w0 w1 w2 head0 array0 head1 arr
     ))
 
 -- the head rechannel as a part, and its widths
-pub head_part : (d : List ℕ) {a : ArrayRecord} {sh : Shape} → a ≡ array_of d → head_rechannel_of a ≡ There sh → get_or (parts_of d) (first_part (suc (layer_count d))) Absent ≡ There sh
+pub head_part : (d : List ℕ) {a : ArrayRecord} {sh : Shape} → a ≡ array_of d → head_rechannel_of a ≡ Some sh → get_or (parts_of d) (first_part (suc (layer_count d))) None ≡ Some sh
 unfolding first_part
 head_part d e is = let q : 1 + 12 * layer_count d ≡ 12 * layer_count d + 1 = omega arith in rw q (part_last d ∙ ap head_rechannel_of (sym e) ∙ is)
 
-pub head_widths : (d : List ℕ) {a : ArrayRecord} {sh : Shape} → refusal_of d ≡ 0 → a ≡ array_of d → head_rechannel_of a ≡ There sh
+pub head_widths : (d : List ℕ) {a : ArrayRecord} {sh : Shape} → refusal_of d ≡ 0 → a ≡ array_of d → head_rechannel_of a ≡ Some sh
     → (sh.ins ≤ widest_of d) × (sh.outs ≤ widest_of d)
 unfolding ins_of outs_of head_rechannel_of
 head_widths d ok e is =
@@ -250,6 +250,6 @@ head_widths d ok e is =
     let o = sym (ap outs_of is) ∙ ap (λ (a : ArrayRecord). a.head_size) e in
     (omega (arith, i, array_width_le d ok 3), omega (arith, o, array_width_le d ok 4))
 
-pub head_there : (a : ArrayRecord) {p : Part} → p ≡ head_rechannel_of a → p ≡ Absent → ⊥
+pub head_there : (a : ArrayRecord) {p : Part} → p ≡ head_rechannel_of a → p ≡ None → ⊥
 unfolding head_rechannel_of
 head_there a e z = not_both (sym z ∙ e)

@@ -1,4 +1,5 @@
 -- A stage's turn gives the layer and the copies around it what they ask. Assumes nothing.
+use Rattle.std.specs.Prelude.{Some}
 use mathlib.Core.Path.{◌≡◌, refl, sym, ◌∙◌, ap, subst}
 use mathlib.Core.List.{List}
 use mathlib.Core.Logic.{◌⊎◌, ⊎_elim}
@@ -13,7 +14,6 @@ use Rattle.description.specs.Ranges.{ArrayRanges, LayerRanges, Low}
 use Rattle.description.specs.Records.{array_of, layer_of}
 use Rattle.description.specs.Sizes.{weights_of, histories_of, positions_of, place_at, place_of}
 use Rattle.description.specs.Tally.{past_all}
-use Rattle.description.specs.declared.parts.Part.TheVariants.{There}
 use Rattle.description.specs.declared.places.Place.{Place}
 use Rattle.description.specs.declared.records.ArrayRecord.{ArrayRecord}
 use Rattle.description.specs.declared.records.LayerRecord.{LayerRecord}
@@ -53,7 +53,7 @@ module _ {d : List ℕ} {span : Span} {l : ℕ} {start : Place} (weights histori
   ends : (f : Place → ℕ) → f (past_all at (slots_of (array_of d) (layer_of d l))) ≡ f (place_at d (first_part (suc (suc l))))
   ends f = ap f (sym (layer_next d l in-range))
 
-  slot_fits : (k : ℕ) → k < 12 → (sh : Shape) → part_of (array_of d) (layer_of d l) k ≡ There sh
+  slot_fits : (k : ℕ) → k < 12 → (sh : Shape) → part_of (array_of d) (layer_of d l) k ≡ Some sh
       → SlotFits (array_of d) (layer_of d l) at sh (slot_place (array_of d) (layer_of d l) at k) histories positions weights
   slot_fits k h sh is =
       let part = slot_is d l in-range k h ∙ is in

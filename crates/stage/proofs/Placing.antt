@@ -1,4 +1,5 @@
 -- After a turn every position is below its ring length: the stage's own by the turn, all others since they were left. Assumes nothing.
+use Rattle.std.specs.Prelude.{None, Some}
 use mathlib.Core.Path.{◌≡◌, sym, ◌∙◌}
 use mathlib.Core.List.{List}
 use mathlib.Core.Logic.{⊎_elim}
@@ -11,28 +12,27 @@ use Rattle.shape.specs.declared.Shape.{Shape}
 use Rattle.shape.specs.Counts.{ring_length}
 use Rattle.description.specs.Parts.{parts_of}
 use Rattle.description.specs.Sizes.{positions_of, total, place_of, place_at}
-use Rattle.description.specs.declared.parts.Part.{Part}
-use Rattle.description.specs.declared.parts.Part.TheVariants.{Absent, There}
+use Rattle.description.specs.Part.{Part}
 use Rattle.layer.proofs.Places.{total_more, total_mono}
 use Rattle.array.specs.Stages.{first_part}
 use Rattle.array.specs.Turn.{OutsidePositions}
 use Rattle.stage.specs.Turns.{Placed}
 
-pub not_both : {sh : Shape} → Absent ≡ There sh → ⊥
+pub not_both : {sh : Shape} → None ≡ Some sh → ⊥
 not_both e = absurd (let z : ◌≡◌ {A = ℕ} 0 1 = cc in omega arith)
 
 -- a part that is there is one of the list
-pub number_in : (ps : List Part) (i : ℕ) (sh : Shape) → get_or ps i Absent ≡ There sh → i < length ps
+pub number_in : (ps : List Part) (i : ℕ) (sh : Shape) → get_or ps i None ≡ Some sh → i < length ps
 number_in ps i sh is =
-    ⊎_elim (λ (l : length ps ≤ i). absurd (not_both (sym (get_or-eq_default ps Absent l) ∙ is))) (λ (l : i < length ps). l) (le_or_lt (length ps) i)
+    ⊎_elim (λ (l : length ps ≤ i). absurd (not_both (sym (get_or-eq_default ps None l) ∙ is))) (λ (l : i < length ps). l) (le_or_lt (length ps) i)
 
 module _ (d : List ℕ) (k : ℕ) {p0 p1 : List ℕ} (placed : Placed d p0) (kept : Free 0 (OutsidePositions d k) p0 p1)
-    (own : (i : ℕ) (sh : Shape) → first_part k ≤ i → i < first_part (suc k) → get_or (parts_of d) i Absent ≡ There sh → get_or p1 (place_at d i).positions 0 < ring_length sh) where
-  one : (i : ℕ) (sh : Shape) → get_or (parts_of d) i Absent ≡ There sh → total positions_of (take i (parts_of d)) + 1 ≡ total positions_of (take (suc i) (parts_of d))
+    (own : (i : ℕ) (sh : Shape) → first_part k ≤ i → i < first_part (suc k) → get_or (parts_of d) i None ≡ Some sh → get_or p1 (place_at d i).positions 0 < ring_length sh) where
+  one : (i : ℕ) (sh : Shape) → get_or (parts_of d) i None ≡ Some sh → total positions_of (take i (parts_of d)) + 1 ≡ total positions_of (take (suc i) (parts_of d))
   unfolding positions_of
   one i sh is = rw is at (total_more positions_of (parts_of d) i (number_in (parts_of d) i sh is))
 
-  left : (i : ℕ) (sh : Shape) → get_or (parts_of d) i Absent ≡ There sh → OutsidePositions d k (place_at d i).positions → get_or p1 (place_at d i).positions 0 < ring_length sh
+  left : (i : ℕ) (sh : Shape) → get_or (parts_of d) i None ≡ Some sh → OutsidePositions d k (place_at d i).positions → get_or p1 (place_at d i).positions 0 < ring_length sh
   left i sh is outside = rw (kept.is (place_at d i).positions outside) (placed.is i sh is)
 
   pub placed_on : Placed d p1

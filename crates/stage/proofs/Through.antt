@@ -1,4 +1,5 @@
 -- A layer's turn: copies in, the layer, copies back are a turn by the definition. Assumes nothing.
+use Rattle.std.specs.Prelude.{None, Some}
 use mathlib.Core.Path.{◌≡◌, refl, sym, ◌∙◌, ap}
 use mathlib.Core.List.{List, []}
 use Prim.Native.Nat.{ℕ, zero, suc, ◌+◌, ◌-◌, ◌*◌, ◌≤◌, ◌<◌}
@@ -21,7 +22,6 @@ use Rattle.description.specs.Parts.{parts_of, slots_of, part_of}
 use Rattle.description.specs.Records.{array_of, layer_of}
 use Rattle.description.specs.Sizes.{place_at, widest_of}
 use Rattle.description.specs.Tally.{past_all}
-use Rattle.description.specs.declared.parts.Part.TheVariants.{Absent, There}
 use Rattle.description.specs.declared.places.Place.{Place}
 use Rattle.description.specs.declared.records.ArrayRecord.{ArrayRecord}
 use Rattle.description.specs.declared.records.LayerRecord.{LayerRecord}
@@ -53,7 +53,7 @@ module _ (d : List ℕ) (l : ℕ) (in-range : l < layer_count d) where
   abbrev start : Place
   start = place_at d (1 + 12 * l)
 
-  pub slot_is : (k : ℕ) → k < 12 → get_or (parts_of d) (1 + 12 * l + k) Absent ≡ part_of a r k
+  pub slot_is : (k : ℕ) → k < 12 → get_or (parts_of d) (1 + 12 * l + k) None ≡ part_of a r k
   slot_is k h = let e : 1 + 12 * l + k ≡ 1 + (12 * l + k) = omega arith in rw e (part_slot d l k in-range h)
 
   pub slot_place_is : (k : ℕ) → k ≤ 12 → place_at d (1 + 12 * l + k) ≡ slot_place a r start k
@@ -247,13 +247,13 @@ module _ (d : List ℕ) (l : ℕ) (in-range : l < layer_count d) {weights : List
     }
 
   -- the layer's own positions
-  own : (i : ℕ) (sh : Shape) → first_part (suc l) ≤ i → i < first_part (suc (suc l)) → get_or (parts_of d) i Absent ≡ There sh → get_or p1 (place_at d i).positions 0 < ring_length sh
+  own : (i : ℕ) (sh : Shape) → first_part (suc l) ≤ i → i < first_part (suc (suc l)) → get_or (parts_of d) i None ≡ Some sh → get_or p1 (place_at d i).positions 0 < ring_length sh
   unfolding first_part
   own i sh lo hi is =
       let k = i - (1 + 12 * l) in
       let e : 1 + 12 * l + k ≡ i = omega (arith, lo) in
       let lt : k < 12 = omega (arith, lo, hi) in
-      let part : part_of (array_of d) (layer_of d l) k ≡ There sh = sym (slot_is d l in-range k lt) ∙ rw e is in
+      let part : part_of (array_of d) (layer_of d l) k ≡ Some sh = sym (slot_is d l in-range k lt) ∙ rw e is in
       let q = s2.places k lt sh part in
       let p : slot_place (array_of d) (layer_of d l) (place_at d (1 + 12 * l)) k ≡ place_at d i = sym (slot_place_is d l in-range k (omega (arith, lt))) ∙ ap (place_at d) e in
       rw p at q

@@ -1,4 +1,5 @@
 -- What a turn's needs come to in numbers: every width times the columns fits a region, and the stage's numbers lie within the buffers. Assumes nothing.
+use Rattle.std.specs.Prelude.{None, Some}
 use mathlib.Core.Path.{◌≡◌, sym, ◌∙◌, ap, subst}
 use mathlib.Core.List.{List}
 use Prim.Native.Nat.{ℕ, suc, ◌+◌, ◌*◌, ◌≤◌, ◌<◌}
@@ -11,7 +12,6 @@ use Rattle.description.specs.Parts.{parts_of}
 use Rattle.description.specs.Ranges.{Low, Fits}
 use Rattle.description.specs.Records.{array_of}
 use Rattle.description.specs.Sizes.{weights_of, histories_of, positions_of, place_at, widest_of, array_widths}
-use Rattle.description.specs.declared.parts.Part.TheVariants.{Absent, There}
 use Rattle.description.specs.declared.places.Place.{Place}
 use Rattle.description.specs.declared.records.ArrayRecord.{ArrayRecord}
 use Rattle.lists.specs.Region.{Apart}
@@ -45,7 +45,7 @@ module _ {d : List ℕ} {span : Span} {k : ℕ} {start : Place} {nweights nhisto
   from_small = rw fits.size_is (let q = mul-le-mul_right {m = 1} {n = widest_of d} span.n (widest_least d fits.sound) in omega (arith, q, fits.columns_inside))
 
   -- the numbers of part i, which is there, lie within the buffers
-  pub part_fits : (i : ℕ) (sh : Shape) → get_or (parts_of d) i Absent ≡ There sh
+  pub part_fits : (i : ℕ) (sh : Shape) → get_or (parts_of d) i None ≡ Some sh
       → ((place_at d i).weights + weight_count sh ≤ nweights) × ((place_at d i).histories + history_count sh ≤ nhistories) × ((place_at d i).positions < length positions)
   unfolding weights_of histories_of positions_of
   part_fits i sh is =
@@ -93,7 +93,7 @@ module _ {d : List ℕ} {span : Span} {k : ℕ} {start : Place} {nweights nhisto
   count_le = omega (arith, fits.columns_inside)
 
   -- part i, which is there, can be played from region x to the next one; the one after that is used up
-  module _ (i : ℕ) (sh : Shape) (is : get_or (parts_of d) i Absent ≡ There sh) (at : start ≡ place_at d i) where
+  module _ (i : ℕ) (sh : Shape) (is : get_or (parts_of d) i None ≡ Some sh) (at : start ≡ place_at d i) where
     pub play_fits : {nwork : ℕ} (x : ℕ) → x + 2 < 16 → nwork ≡ 16 * span.size → sh.ins ≤ widest_of d → sh.outs ≤ widest_of d
         → PlayFits sh start (get_or positions start.positions 0) span.count nwork nhistories (length positions) nweights (x * span.size) ((x + 1) * span.size) ((x + 2) * span.size)
     play_fits {nwork} x h long ins outs =
@@ -116,7 +116,7 @@ module _ {d : List ℕ} {span : Span} {k : ℕ} {start : Place} {nweights nhisto
           rows_x = omega (arith, ri.of_turn, ro.of_turn);
         }
 
-    pub past_fits : Low 0x100_0000_0000 start × Fits (There sh)
+    pub past_fits : Low 0x100_0000_0000 start × Fits (Some sh)
     past_fits = (rw at (place_low i), rw (← is) (part_in_range d fits.sound i))
 
   pub array_room_of : {a : ArrayRecord} → a ≡ array_of d → (i : ℕ) → Room (get_or (array_widths a) i 0) span

@@ -1,6 +1,6 @@
 -- What a turn of a stage asks, and what the turn of each kind of stage does: a turn by the definition (TurnDone), whatever the buffers hold that this
 -- kind of stage is not lent. Document 01, 'Plans'.
-use Rattle.std.specs.Prelude.{◌≡◌, List, ℕ, suc, ◌+◌, ◌*◌, ◌≤◌, ◌<◌, length, get_or, Float}
+use Rattle.std.specs.Prelude.{◌≡◌, List, ℕ, suc, ◌+◌, ◌*◌, ◌≤◌, ◌<◌, length, get_or, Float, None, Some}
 use Rattle.shape.specs.declared.Shape.{Shape}
 use Rattle.shape.specs.Counts.{ring_length}
 use Rattle.description.specs.Numbers.{layer_count}
@@ -8,7 +8,6 @@ use Rattle.description.specs.Parts.{parts_of}
 use Rattle.description.specs.Records.{array_of}
 use Rattle.description.specs.Refusals.{refusal_of}
 use Rattle.description.specs.Sizes.{weights_of, histories_of, positions_of, total, place_at, widest_of}
-use Rattle.description.specs.declared.parts.Part.TheVariants.{Absent, There}
 use Rattle.description.specs.declared.places.Place.{Place}
 use Rattle.array.specs.Stages.{stage_count}
 use Rattle.array.specs.Lent.{Given}
@@ -17,7 +16,7 @@ use Rattle.stage.specs.declared.span.Span.{Span}
 
 -- every position is below its ring length
 pub record Placed (d : List ℕ) (positions : List ℕ) : Type 0 where
-  pub is : (i : ℕ) (sh : Shape) → get_or (parts_of d) i Absent ≡ There sh → get_or positions (place_at d i).positions 0 < ring_length sh
+  pub is : (i : ℕ) (sh : Shape) → get_or (parts_of d) i None ≡ Some sh → get_or positions (place_at d i).positions 0 < ring_length sh
 
 -- a turn of stage k, whose numbers start at a place
 pub record StageFits (d : List ℕ) (span : Span) (k : ℕ) (start : Place) (nweights nhistories : ℕ) (positions : List ℕ) (nscratch : ℕ) : Type 0 where

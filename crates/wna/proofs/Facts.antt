@@ -1,4 +1,5 @@
 -- The theorems on the answers: any two results that meet a contract agree, and what a whole header tells. Assumes nothing.
+use Rattle.std.specs.Prelude.{Err, Ok}
 use mathlib.Core.Path.{◌≡◌, refl, sym, ◌∙◌, ap}
 use mathlib.Core.Bool.{Bool, true, false, cond, not, ◌||◌}
 use mathlib.Core.List.{List, [], ◌∷◌}
@@ -11,20 +12,19 @@ use lib.ListN.{length}
 use borrow.Author.Tests.{eq-eqb, eqb-false, eqb-true, ltb-false}
 use Rattle.lists.proofs.Nums.{le_or_lt}
 use Rattle.wna.specs.Header.{HeaderAnswers, LowHeader, bad_header, block_of, columns_of, count_of, header_length, header_number, header_refusal, header_values, most_numbers, other_magic, version_of}
-use Rattle.description.specs.Answers.{Answers, listed, number_of, values_of}
+use Rattle.description.specs.Answers.{Answers, listed, values_of}
+use Rattle.refusal.specs.Number.{number_of}
 use Rattle.description.specs.Refusals.{refusal_of}
 use Rattle.description.specs.Sizes.{sizes_of}
-use Rattle.description.specs.declared.answers.Checked.{Checked}
-use Rattle.description.specs.declared.answers.Checked.TheVariants.{Sound}
+use Rattle.description.specs.Checked.{Checked}
 use Rattle.description.specs.declared.answers.Sizes.{Sizes}
 use Rattle.description.proofs.Facts.{sound_only}
 use Rattle.wna.specs.Opening.{Described, Opened, Weighed, description_refusal, no_room, short_for}
 use Rattle.wna.specs.Words.{words_of}
 use Rattle.wna.specs.declared.header.Header.{Header}
-use Rattle.wna.specs.declared.header.HeaderAnswer.{HeaderAnswer}
-use Rattle.wna.specs.declared.header.HeaderAnswer.TheVariants.{Refused, Whole}
+use Rattle.wna.specs.HeaderAnswer.{HeaderAnswer}
 
-same_header : (h k : Header) → header_values (Whole h) ≡ header_values (Whole k) → h ≡ k
+same_header : (h k : Header) → header_values (Ok h) ≡ header_values (Ok k) → h ≡ k
 unfolding header_values
 same_header h k e =
     let b : h.block ≡ k.block = cc in
@@ -33,16 +33,16 @@ same_header h k e =
     let q : ◌≡◌ {A = Header} (record { block = h.block; count = h.count; columns = h.columns }) (record { block = k.block; count = k.count; columns = k.columns }) = rw (b, n, c) in
     q
 
-nothing : {P : Type 0} (n : ℕ) (h : Header) → header_values (Refused n) ≡ header_values (Whole h) → P
+nothing : {P : Type 0} (n : ℕ) (h : Header) → header_values (Err n) ≡ header_values (Ok h) → P
 unfolding header_values
 nothing n h e = absurd (let z : ◌≡◌ {A = ℕ} 0 1 = cc in omega arith)
 
 same_answer : (r s : HeaderAnswer) → header_number r ≡ header_number s → header_values r ≡ header_values s → r ≡ s
 unfolding header_number
-same_answer (Refused n) (Refused m) e v = ap Refused e
-same_answer (Refused n) (Whole h) e v = nothing n h v
-same_answer (Whole h) (Refused n) e v = nothing n h (sym v)
-same_answer (Whole h) (Whole k) e v = ap Whole (same_header h k v)
+same_answer (Err n) (Err m) e v = ap Err e
+same_answer (Err n) (Ok h) e v = nothing n h v
+same_answer (Ok h) (Err n) e v = nothing n h (sym v)
+same_answer (Ok h) (Ok k) e v = ap Ok (same_header h k v)
 
 pub header_agree : (f : List ℕ) {r s : HeaderAnswer} → HeaderAnswers f r → HeaderAnswers f s → r ≡ s
 header_agree f {r} {s} a b = same_answer r s (a.number ∙ sym b.number) (a.values ∙ sym b.values)
@@ -77,7 +77,7 @@ pub block_some : (f : List ℕ) → bad_header f ≡ false → 1 ≤ block_of f
 block_some f e = above (block_of f) (eqb-false (block_of f) 0 (block_in f e).0)
 
 -- what a whole header tells of its numbers
-pub header_low : (f : List ℕ) {h : Header} → HeaderAnswers f (Whole h) → LowHeader h
+pub header_low : (f : List ℕ) {h : Header} → HeaderAnswers f (Ok h) → LowHeader h
 unfolding header_number header_values
 header_low f {h} a =
     let p = passed f a.number in
@@ -112,13 +112,13 @@ has_room s block e =
     let r = roomy (ltb 16384 s.weights) (ltb 16384 s.histories) (ltb 1024 (s.widest * block)) e in
     (ltb-false _ _ r.0, ltb-false _ _ r.1, ltb-false _ _ r.2)
 
-pub opened_is : {numbers f numbers' : List ℕ} {block : ℕ} {s : Sizes} → Described numbers f block (Sound s) numbers' → Opened numbers' s block
+pub opened_is : {numbers f numbers' : List ℕ} {block : ℕ} {s : Sizes} → Described numbers f block (Ok s) numbers' → Opened numbers' s block
 unfolding description_refusal number_of
 opened_is {numbers} {f} {numbers'} {block} {s} a =
     let d = words_of (length numbers) f in
     let p = open_only (short_for (length numbers) f) (no_room (sizes_of d) block) (refusal_of d) a.number in
     let e : numbers' ≡ d = rw p.0 at a.unpacked in
-    let told : Answers d (Sound s) = record { number = sym p.1; values = rw p.1 a.values } in
+    let told : Answers d (Ok s) = record { number = sym p.1; values = rw p.1 a.values } in
     let is = sound_only d told in
     let room = has_room s block (ap (λ (s : Sizes). no_room s block) is.1 ∙ p.2) in
     record { sound = rw e p.1; sizes = rw e is.1; weights = room.0; histories = room.1; planar = room.2 }

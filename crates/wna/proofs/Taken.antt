@@ -1,4 +1,5 @@
 -- The answers on a description and on weights, from what the tests told. Assumes nothing.
+use Rattle.std.specs.Prelude.{Err, Ok}
 use mathlib.Core.Path.{◌≡◌, refl, sym, ap, subst}
 use mathlib.Core.Bool.{true, false}
 use mathlib.Core.List.{List}
@@ -7,11 +8,11 @@ use native.Mathlib.Nat.{mul-le-mul}
 use lib.Ieee.{Float}
 use lib.ListN.{length}
 use borrow.Author.Tests.{eq-eqb, le-ltb, lt-ltb}
-use Rattle.description.specs.Answers.{Answers, number_of, values_of}
+use Rattle.description.specs.Answers.{Answers, values_of}
+use Rattle.refusal.specs.Number.{number_of}
 use Rattle.description.specs.Refusals.{refusal_of}
 use Rattle.description.specs.Sizes.{sizes_of}
-use Rattle.description.specs.declared.answers.Checked.{Checked}
-use Rattle.description.specs.declared.answers.Checked.TheVariants.{Refused, Sound}
+use Rattle.description.specs.Checked.{Checked}
 use Rattle.description.specs.declared.answers.Sizes.{Sizes}
 use Rattle.description.proofs.Facts.{refused_only, sound_only}
 use Rattle.description.proofs.Sound.{widest_most}
@@ -30,7 +31,7 @@ unfolding short_for
 long n f h = le-ltb (length f) (4 * n) h
 
 module _ (numbers f : List ℕ) (block : ℕ) where
-  pub cut : length f < 4 * length numbers → Described numbers f block (Refused 10) numbers
+  pub cut : length f < 4 * length numbers → Described numbers f block (Err 10) numbers
   unfolding description_refusal number_of values_of
   cut h =
       let s = short (length numbers) f h in
@@ -47,7 +48,7 @@ module _ (numbers f : List ℕ) (block : ℕ) where
     unfolding d
     is = subst (λ (l : List ℕ). Answers l checked) e answer
 
-    pub wrong : {n : ℕ} → checked ≡ Refused n → Described numbers f block checked numbers'
+    pub wrong : {n : ℕ} → checked ≡ Err n → Described numbers f block checked numbers'
     unfolding description_refusal d number_of values_of
     wrong {n} q =
         let a = refused_only d (subst (Answers d) q is) in
@@ -57,7 +58,7 @@ module _ (numbers f : List ℕ) (block : ℕ) where
           unpacked = rw ok e;
         }
 
-    module _ {s : Sizes} (q : checked ≡ Sound s) where
+    module _ {s : Sizes} (q : checked ≡ Ok s) where
       sizes_is : (refusal_of d ≡ 0) × (s ≡ sizes_of d)
       sizes_is = sound_only d (subst (Answers d) q is)
 
@@ -65,7 +66,7 @@ module _ (numbers f : List ℕ) (block : ℕ) where
       unfolding sizes_of
       low = rw (ap (λ (s : Sizes). s.widest) sizes_is.1) (widest_most d sizes_is.0)
 
-      pub crowded : no_room s block ≡ true → Described numbers f block (Refused 11) numbers'
+      pub crowded : no_room s block ≡ true → Described numbers f block (Err 11) numbers'
       unfolding description_refusal d number_of values_of
       crowded r =
           record {
@@ -74,7 +75,7 @@ module _ (numbers f : List ℕ) (block : ℕ) where
             unpacked = rw ok e;
           }
 
-      pub opened : no_room s block ≡ false → Described numbers f block (Sound s) numbers'
+      pub opened : no_room s block ≡ false → Described numbers f block (Ok s) numbers'
       unfolding description_refusal d number_of values_of
       opened r =
           record {

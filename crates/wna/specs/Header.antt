@@ -1,9 +1,9 @@
 -- The header: 15 bytes, and what is refused of them. Document 01, 'The program'; a refusal of the header comes before the count is looked at.
-use Rattle.std.specs.Prelude.{◌≡◌, Bool, cond, not, ◌||◌, List, [], ◌∷◌, ℕ, ◌≤◌, eqb, ltb, get_or, length}
+use Rattle.std.specs.Prelude.{◌≡◌, Bool, cond, not, ◌||◌, List, [], ◌∷◌, ℕ, ◌≤◌, eqb, ltb, get_or, length, Err, Ok, Result}
 use Rattle.wna.specs.Words.{half_at, word_at}
 use Rattle.wna.specs.declared.header.Header.{Header}
-use Rattle.wna.specs.declared.header.HeaderAnswer.{HeaderAnswer}
-use Rattle.wna.specs.declared.header.HeaderAnswer.TheVariants.{Refused, Whole}
+use Rattle.refusal.specs.declared.Refusal.{Refusal}
+use Rattle.refusal.specs.Number.{number_of}
 
 abbrev pub header_length : ℕ
 header_length = 15
@@ -38,19 +38,18 @@ most_numbers = 584
 unfoldable pub header_refusal : List ℕ → ℕ
 header_refusal f = cond (bad_header f) 10 (cond (ltb most_numbers (count_of f)) 11 0)
 
--- the refusal number of a header's answer; 0 where nothing is refused
-unfoldable pub header_number : HeaderAnswer → ℕ
-header_number (Refused n) = n
-header_number (Whole h) = 0
+-- what the reading of a header answers
+abbrev pub HeaderAnswer : Type 0
+HeaderAnswer = Result Header Refusal
 
 -- its values: block size, description count, column count
 unfoldable pub header_values : HeaderAnswer → List ℕ
-header_values (Refused n) = []
-header_values (Whole h) = h.block ∷ h.count ∷ h.columns ∷ []
+header_values (Err refusal) = []
+header_values (Ok h) = h.block ∷ h.count ∷ h.columns ∷ []
 
 -- what is promised of the answer on a file that begins with the bytes f
 pub record HeaderAnswers (f : List ℕ) (r : HeaderAnswer) : Type 0 where
-  pub number : header_number r ≡ header_refusal f
+  pub number : number_of r ≡ header_refusal f
   pub values : header_values r ≡ cond (eqb (header_refusal f) 0) (block_of f ∷ count_of f ∷ columns_of f ∷ []) []
 
 -- what the rest of the program may count on

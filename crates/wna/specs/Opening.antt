@@ -1,10 +1,11 @@
 -- What comes before the first column, and the order of its refusals. Document 01, 'The program': "header 10; count above 584, 11; short description
 -- 10; 1-5; weights or histories above 16,384 or W x block above 1024, 11; short weights 10".
 use Rattle.std.specs.Prelude.{◌≡◌, Bool, cond, not, ◌||◌, List, [], ℕ, ◌+◌, ◌*◌, ◌≤◌, eqb, ltb, Float, drop, length}
-use Rattle.description.specs.Answers.{listed, number_of, values_of}
+use Rattle.description.specs.Answers.{listed, values_of}
+use Rattle.refusal.specs.Number.{number_of}
 use Rattle.description.specs.Refusals.{refusal_of}
 use Rattle.description.specs.Sizes.{sizes_of}
-use Rattle.description.specs.declared.answers.Checked.{Checked}
+use Rattle.description.specs.Checked.{Checked}
 use Rattle.description.specs.declared.answers.Sizes.{Sizes}
 use Rattle.wna.specs.Header.{bad_header, block_of, count_of, header_length, most_numbers}
 use Rattle.wna.specs.Words.{floats_of, words_of}

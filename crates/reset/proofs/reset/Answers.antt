@@ -12,17 +12,17 @@ returns-in_default c =
 pub returns-then-histories-sizes : goal.returns-then-histories-sizes
 returns-then-histories-sizes c =
     let args = c.args in
-    other_histories args.description.now args.histories.now args.positions.now c.check-checked.ensures c.in-Sound.is c.if-histories-sizes.true
+    other_histories args.description.now args.histories.now args.positions.now c.check-checked.ensures c.in-Ok.is c.if-histories-sizes.true
 
 pub returns-then-positions-sizes : goal.returns-then-positions-sizes
 returns-then-positions-sizes c =
     let args = c.args in
-    other_positions args.description.now args.histories.now args.positions.now c.check-checked.ensures c.in-Sound.is c.if-positions-sizes.true
+    other_positions args.description.now args.histories.now args.positions.now c.check-checked.ensures c.in-Ok.is c.if-positions-sizes.true
 
 pub read_array-requires : goal.read_array-requires
 read_array-requires c =
     let args = c.args in
-    omega (arith, length_is args.description.now (passed args.description.now args.histories.now args.positions.now c.check-checked.ensures c.in-Sound.is c.if-histories-sizes.false c.if-positions-sizes.false))
+    omega (arith, length_is args.description.now (passed args.description.now args.histories.now args.positions.now c.check-checked.ensures c.in-Ok.is c.if-histories-sizes.false c.if-positions-sizes.false))
 
 pub rewind-requires : goal.rewind-requires
 rewind-requires c =
@@ -30,9 +30,9 @@ rewind-requires c =
     let check = c.check-checked in
     let if1 = c.if-histories-sizes in
     let if2 = c.if-positions-sizes in
-    record { description_value = passed args.description.now args.histories.now args.positions.now check.ensures c.in-Sound.is if1.false if2.false; a_value = c.read_array.ensures; positions_len = positions_fit args.description.now args.histories.now args.positions.now check.ensures c.in-Sound.is if1.false if2.false }
+    record { description_value = passed args.description.now args.histories.now args.positions.now check.ensures c.in-Ok.is if1.false if2.false; a_value = c.read_array.ensures; positions_len = positions_fit args.description.now args.histories.now args.positions.now check.ensures c.in-Ok.is if1.false if2.false }
 
 pub returns : goal.returns
 returns c =
     let args = c.args in
-    done args.description.now args.histories.now args.positions.now c.check-checked.ensures c.in-Sound.is c.if-histories-sizes.false c.if-positions-sizes.false c.silence.ensures c.rewind.ensures
+    done args.description.now args.histories.now args.positions.now c.check-checked.ensures c.in-Ok.is c.if-histories-sizes.false c.if-positions-sizes.false c.silence.ensures c.rewind.ensures

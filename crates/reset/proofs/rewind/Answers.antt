@@ -1,4 +1,5 @@
 -- `rewind` meets its contract. The loop's invariant: the positions of the parts passed, then the old ones (Filling).
+use Rattle.std.specs.Prelude.{None}
 use mathlib.Core.List.{◌++◌}
 use mathlib.Core.Path.{subst, refl, sym, ◌∙◌, ap}
 use Prim.Native.Nat.{ℕ, ◌+◌, ◌*◌, ◌<◌}
@@ -10,8 +11,7 @@ use Rattle.description.proofs.Sound.{layers_are, layers_of, length-parts, part_i
 use Rattle.description.specs.Parts.{parts_of}
 use Rattle.description.specs.Ranges.{Fits}
 use Rattle.description.specs.Sizes.{positions_of, total}
-use Rattle.description.specs.declared.parts.Part.TheVariants.{Absent}
-use Rattle.description.specs.declared.parts.Part.{Part}
+use Rattle.description.specs.Part.{Part}
 use Rattle.reset.specs.Resets.{start_of, starts_of}
 use Rattle.reset.proofs.Filling.{next-at, rewound_all, room, turn}
 use Rattle.reset.proofs.rewind.Goals as goal
@@ -65,7 +65,7 @@ loop-i-preserved c =
       loop.invariant.2,
       loop.invariant.3,
       loop.invariant.4,
-      ap length e ∙ length-sets loop.positions loop.at (start_of (get_or (parts_of args.description.now) loop.i Absent)) ∙ loop.invariant.5,
+      ap length e ∙ length-sets loop.positions loop.at (start_of (get_or (parts_of args.description.now) loop.i None)) ∙ loop.invariant.5,
       a ∙ next-at (parts_of args.description.now) args.positions.now loop.i loop.at lt loop.invariant.3 loop.invariant.6,
       e
           ∙ turn (parts_of args.description.now) args.positions.now loop.i loop.at lt loop.invariant.3 loop.invariant.6 loop.invariant.7

@@ -7,10 +7,10 @@ pub returns-in_default : goal.returns-in_default
 returns-in_default c = site_absent _ _ _ _ _ _ _ _ _ _ _ _ _ _ _ c.in_default.is
 
 pub play-requires : goal.play-requires
-play-requires c = (c.requires.site_fits.there _ c.in-There.is).play
+play-requires c = (c.requires.site_fits.there _ c.in-Some.is).play
 
 pub process-requires : goal.process-requires
-process-requires c = (film_fits (c.requires.site_fits.there _ c.in-There.is) _ c.play.ensures.others.long c.requires.site_fits.to_in, omega (arith, c.requires.site_fits_2.0.to_in, c.play.ensures.others.long), c.requires.site_fits_2.1)
+process-requires c = (film_fits (c.requires.site_fits.there _ c.in-Some.is) _ c.play.ensures.others.long c.requires.site_fits.to_in, omega (arith, c.requires.site_fits_2.0.to_in, c.play.ensures.others.long), c.requires.site_fits_2.1)
 
 pub returns : goal.returns
-returns c = site_there _ _ c.in-There.is (c.requires.site_fits_2.0.there _ c.in-There.is) c.requires.site_fits.to_in c.play.ensures c.process.ensures
+returns c = site_there _ _ c.in-Some.is (c.requires.site_fits_2.0.there _ c.in-Some.is) c.requires.site_fits.to_in c.play.ensures c.process.ensures

@@ -11,7 +11,7 @@ use Rattle.description.specs.Parts.{head_rechannel_of, rechannel_of}
 use Rattle.description.specs.Ranges.{ArrayRanges, Fits, LayerRanges}
 use Rattle.description.specs.Records.{array_of}
 use Rattle.description.specs.Sizes.{positions_of, total}
-use Rattle.description.specs.declared.parts.Part.{Part}
+use Rattle.description.specs.Part.{Part}
 use Rattle.admit.specs.Passes.{passed}
 use Rattle.admit.proofs.Passing.{first_passed, first_room, last_passed, last_room, layer_more, layer_room, origin, slots_same}
 use Rattle.admit.proofs.places.places_beyond.Goals as goal

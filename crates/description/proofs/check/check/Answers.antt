@@ -4,13 +4,14 @@ use mathlib.Core.Path.{subst, ◌≡◌, refl, sym, ◌∙◌, ap}
 use Prim.Native.Nat.{◌≤◌}
 use native.Mathlib.Omega.{arith}
 use borrow.Author.Rules.{rules}
+use Rattle.refusal.proofs.PassedOn.{passed_on}
 use Rattle.description.specs.Answers.{LayerAnswers}
 use Rattle.description.specs.Limits.{array_limits}
 use Rattle.description.specs.Numbers.{layer_count}
 use Rattle.description.specs.Ranges.{ArrayRanges, LayerRanges}
 use Rattle.description.specs.Tally.{LowTally, start_of}
 use Rattle.description.specs.Tests.{any_below}
-use Rattle.description.proofs.Answering.{whole_answer, broken_array, broken_layer, kept_layer, kept_more, long_enough, mislaid, read_broken, read_whole, short}
+use Rattle.description.proofs.Answering.{whole_answer, broken_array, kept_layer, kept_more, layer_refused, long_enough, mislaid, read_whole, short}
 use Rattle.description.proofs.Passing.{tally_step, tally_at, tally_low}
 use Rattle.description.proofs.Ranging.{array_ranges, layer_ranges, layers_between}
 use Rattle.description.proofs.check.check.Goals as goal
@@ -54,24 +55,23 @@ loop-l-init c =
 pub read_layer-requires : goal.read_layer-requires
 read_layer-requires c = omega arith
 
-pub returns-in_default : goal.returns-in_default
-returns-in_default c =
-    let args = c.args in
+pub returns-in_err-r : goal.returns-in_err-r
+returns-in_err-r c =
     let loop = c.loop-l in
-    broken_layer args.description.now loop.l loop.invariant.2 (omega arith) (read_broken args.description.now loop.l (subst (LayerAnswers args.description.now loop.l) c.in_default.is c.read_layer.ensures))
+    rw (passed_on c.from_residual.result c.from_residual.ensures) (layer_refused c.args.description.now loop.l loop.invariant.2 (omega arith) c.read_layer.ensures c.in_err-r.was)
 
 pub with_layer-tally-requires : goal.with_layer-tally-requires
 with_layer-tally-requires c =
     let args = c.args in
     let loop = c.loop-l in
-    let w = read_whole args.description.now loop.l (subst (LayerAnswers args.description.now loop.l) c.in-Read.is c.read_layer.ensures) in
+    let w = read_whole args.description.now loop.l (subst (LayerAnswers args.description.now loop.l) c.in_ok-r.was c.read_layer.ensures) in
     let le : loop.l ≤ 24 = omega (arith, loop.invariant.0, loop.invariant.1, (layers_between args.description.now loop.invariant.5).most) in record { low_tally = subst LowTally (sym loop.invariant.7) (tally_low args.description.now (array_ranges args.description.now loop.invariant.5) loop.l le (kept_layer args.description.now loop.l loop.invariant.6)); array_ranges = subst ArrayRanges (sym loop.invariant.4) (array_ranges args.description.now loop.invariant.5); layer_ranges = subst LayerRanges (sym w.1) (layer_ranges args.description.now loop.l w.0) }
 
 pub loop-l-preserved : goal.loop-l-preserved
 loop-l-preserved c =
     let args = c.args in
     let loop = c.loop-l in
-    let w = read_whole args.description.now loop.l (subst (LayerAnswers args.description.now loop.l) c.in-Read.is c.read_layer.ensures) in (
+    let w = read_whole args.description.now loop.l (subst (LayerAnswers args.description.now loop.l) c.in_ok-r.was c.read_layer.ensures) in (
       search rules,
       loop.invariant.1,
       loop.invariant.2,

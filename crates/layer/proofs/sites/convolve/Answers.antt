@@ -11,9 +11,9 @@ returns-in_default c = conv_absent c.requires.layer_fits _ c.requires.k_bound.0 
 pub play-requires : goal.play-requires
 play-requires c =
     let e = c.place-at.ensures ∙ c.requires.slots_of.is _ (omega (arith, c.requires.k_bound.0)) in
-    rw e (conv_fits c.requires.layer_fits _ c.requires.k_bound.0 _ (sym c.core.ensures ∙ c.in-There.is) _ _ c.requires.k_bound.1 c.requires.k_bound.2 c.requires.k_bound.3)
+    rw e (conv_fits c.requires.layer_fits _ c.requires.k_bound.0 _ (sym c.core.ensures ∙ c.in-Some.is) _ _ c.requires.k_bound.1 c.requires.k_bound.2 c.requires.k_bound.3)
 
 pub returns : goal.returns
 returns c =
     let e = c.place-at.ensures ∙ c.requires.slots_of.is _ (omega (arith, c.requires.k_bound.0)) in
-    conv-past c.requires.layer_fits _ c.requires.k_bound.0 c.requires.k_bound.1.past _ (sym c.core.ensures ∙ c.in-There.is) (rw e at c.play.ensures)
+    conv-past c.requires.layer_fits _ c.requires.k_bound.0 c.requires.k_bound.1.past _ (sym c.core.ensures ∙ c.in-Some.is) (rw e at c.play.ensures)

@@ -32,7 +32,7 @@ columns-requires c = (
 
 pub play-requires : goal.play-requires
 play-requires c =
-    let is = sym c.rechannel.ensures ∙ c.in-There.is in
+    let is = sym c.rechannel.ensures ∙ c.in-Some.is in
     let w = rechannel_widths c.args.description.now c.requires.stage_fits.sound c.read_array-a.ensures is in
     play_fits c.requires.stage_fits 0 _ (rechannel_part c.args.description.now c.read_array-a.ensures is) (entry_at c.requires.stage_fits) 2 (omega arith) (c.columns.auto.dst ∙ c.requires.stage_fits.scratch_is) w.0 w.1
 
@@ -56,12 +56,12 @@ columns-requires-2 c =
 
 pub past-requires : goal.past-requires
 past-requires c =
-    let is = sym c.rechannel.ensures ∙ c.in-There.is in
+    let is = sym c.rechannel.ensures ∙ c.in-Some.is in
     let p = past_fits c.requires.stage_fits 0 _ (rechannel_part c.args.description.now c.read_array-a.ensures is) (entry_at c.requires.stage_fits) in
     record { low = p.0; fits = p.1 }
 
 pub returns : goal.returns
 returns c =
-    let is = sym c.rechannel.ensures ∙ c.in-There.is in
+    let is = sym c.rechannel.ensures ∙ c.in-Some.is in
     let t = entry_turn c.args.input.now c.args.head_in.now _ _ _ _ _ c.read_array-a.result c.read_array-a.ensures c.requires.stage_fits is c.columns.ensures c.play.ensures c.columns_within.ensures c.columns-2.ensures in
     record { value = c.past.ensures ∙ t.0; first_turn = t.1 }

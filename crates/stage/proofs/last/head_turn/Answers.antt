@@ -33,7 +33,7 @@ columns_within-requires c =
 
 pub play-requires : goal.play-requires
 play-requires c =
-    let is = sym c.head_rechannel.ensures ∙ c.in-There.is in
+    let is = sym c.head_rechannel.ensures ∙ c.in-Some.is in
     let w = head_widths c.args.description.now c.requires.stage_fits.sound c.read_array-a.ensures is in
     play_fits c.requires.stage_fits _ _ (head_part c.args.description.now c.read_array-a.ensures is) c.requires.stage_fits.start_is 3 (omega arith) (c.columns_within.auto.work ∙ c.requires.stage_fits.scratch_is) w.0 w.1
 
@@ -57,12 +57,12 @@ columns-requires-2 c =
 
 pub past-requires : goal.past-requires
 past-requires c =
-    let is = sym c.head_rechannel.ensures ∙ c.in-There.is in
+    let is = sym c.head_rechannel.ensures ∙ c.in-Some.is in
     let p = past_fits c.requires.stage_fits _ _ (head_part c.args.description.now c.read_array-a.ensures is) c.requires.stage_fits.start_is in
     record { low = p.0; fits = p.1 }
 
 pub returns : goal.returns
 returns c =
-    let is = sym c.head_rechannel.ensures ∙ c.in-There.is in
+    let is = sym c.head_rechannel.ensures ∙ c.in-Some.is in
     let t = exit_turn _ _ _ _ _ _ _ c.read_array-a.result c.read_array-a.ensures c.requires.stage_fits c.requires.head_out_len.0 c.requires.head_out_len.1 is c.columns_within.ensures c.play.ensures c.columns.ensures c.columns-2.ensures in
     record { value = c.past.ensures ∙ t.0; last_turn = t.1 }

@@ -3,7 +3,7 @@ use mathlib.Core.List.{[], ◌∷◌}
 use mathlib.Core.Path.{◌∙◌, ◌≡◌, ap, sym}
 use native.Mathlib.Omega.{arith}
 use Rattle.description.specs.Sizes.{positions_of}
-use Rattle.description.specs.declared.parts.Part.{Part}
+use Rattle.description.specs.Part.{Part}
 use Rattle.admit.specs.Passes.{passed}
 use Rattle.admit.proofs.Passing.{passed_absent, passed_there}
 use Rattle.admit.proofs.places.Pass.part.Goals as goal
@@ -11,18 +11,18 @@ use Rattle.admit.proofs.places.Pass.part.Goals as goal
 pub bounds-positions-at : goal.bounds-positions-at
 unfolding positions_of
 bounds-positions-at c =
-    let one : positions_of c.args.part ≡ 1 = rw c.in-There.is in
+    let one : positions_of c.args.part ≡ 1 = rw c.in-Some.is in
     omega (arith, c.requires.part_in_bounds)
 
 pub ring_length-requires : goal.ring_length-requires
-ring_length-requires c = c.requires.fits.shape _ c.in-There.is
+ring_length-requires c = c.requires.fits.shape _ c.in-Some.is
 
-pub returns-in-Absent : goal.returns-in-Absent
-returns-in-Absent c = rw c.in-Absent.is (passed_absent _ _)
+pub returns-in-None : goal.returns-in-None
+returns-in-None c = rw c.in-None.is (passed_absent _ _)
 
-pub returns-in-There : goal.returns-in-There
+pub returns-in-Some : goal.returns-in-Some
 unfolding positions_of
-returns-in-There c =
+returns-in-Some c =
     let args = c.args in
-    let one : positions_of args.part ≡ 1 = rw c.in-There.is in
-    passed_there args.positions.now args.self _ (omega (arith, c.requires.part_in_bounds)) c.ring_length.ensures ∙ ap (λ (p : Part). passed args.positions.now args.self (p ∷ [])) (sym c.in-There.is)
+    let one : positions_of args.part ≡ 1 = rw c.in-Some.is in
+    passed_there args.positions.now args.self _ (omega (arith, c.requires.part_in_bounds)) c.ring_length.ensures ∙ ap (λ (p : Part). passed args.positions.now args.self (p ∷ [])) (sym c.in-Some.is)
