@@ -8,11 +8,12 @@ pub mod plan;
 
 ghost use Rattle.admit.specs.Admits.{Admits, lent_of};
 
-use description::answers::Checked;
+use description::answers::Sizes;
 use description::check::check;
 use description::records::read_array;
 use lengths::{Lengths, MOST_COLUMNS, differ};
 use places::places_beyond;
+use refusal::Refusal;
 
 // A block of n columns: 1 to 8. A single column is a block of one, for 1 is no more than 1024. No width is multiplied by n before 6 is tested.
 pub fn call(
@@ -27,15 +28,12 @@ pub fn call(
     array_out: &[f32],
     scratch: &[f32],
     n: usize,
-) -> Checked
+) -> Result<Sizes, Refusal>
     ensures { Admits (lent_of description.now weights.now histories.now positions.now input.now condition.now head_in.now head_out.now array_out.now scratch.now) n result }
 {
-    let checked = check(description);
-    let Checked::Sound(sizes) = checked else {
-        return checked;
-    };
+    let sizes = check(description)?;
     if MOST_COLUMNS < n {
-        return Checked::Refused(6);
+        return Err(Refusal::BlockSize);
     }
     let a = read_array(description);
     let lengths = Lengths {
@@ -50,10 +48,10 @@ pub fn call(
         scratch: scratch.len(),
     };
     if differ(lengths, a, sizes, n) {
-        return Checked::Refused(7);
+        return Err(Refusal::BufferLength);
     }
     if places_beyond(description, a, positions) {
-        return Checked::Refused(8);
+        return Err(Refusal::Position);
     }
-    Checked::Sound(sizes)
+    Ok(sizes)
 }

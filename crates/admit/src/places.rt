@@ -29,11 +29,11 @@ impl Pass {
     {
         match part {
             // anew and not `self`: of a value handed on whole the compiler moves the padding too, in pieces that the next load has to wait for
-            Part::Absent => Pass {
+            None => Pass {
                 at: self.at,
                 beyond: self.beyond,
             },
-            Part::There(sh) => {
+            Some(sh) => {
                 let at = self.at;
                 let place = positions[at] as usize;
                 let beyond = sh.ring_length() <= place;
@@ -73,11 +73,11 @@ pub fn places_beyond(description: &[u32], a: ArrayRecord, positions: &[u32]) -> 
         at: 0,
         beyond: false,
     };
-    let mut pass = first.part(positions, rechannel(a));
+    let mut pass = first.part(positions, Some(rechannel(a)));
     for l in 0..layers {
         let r = layer_record(description, l);
         pass = pass.layer(positions, a, r);
     }
-    let last = pass.part(positions, head_rechannel(a));
+    let last = pass.part(positions, Some(head_rechannel(a)));
     last.beyond
 }

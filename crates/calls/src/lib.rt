@@ -5,6 +5,7 @@
 ghost use Rattle.array.specs.Refusals.{block_refusal, column_refusal, planned_refusal};
 ghost use Rattle.array.specs.Calls.{Answers};
 ghost use Rattle.admit.specs.Admits.{lent_of};
+ghost use Rattle.refusal.specs.Number.{number_of};
 ghost use Rattle.calls.specs.Fit.{left_of};
 
 pub mod plans;
@@ -13,8 +14,8 @@ pub mod starts;
 
 use admit::lengths::REGIONS;
 use admit::plan::keeps_rule;
-use description::answers::Checked;
 use description::records::read_array;
+use refusal::Refusal;
 
 // A block of n columns: 0, or the refusal 1 to 8. Scratch is cut to its sixteen regions, so that a longer one is no different.
 pub fn block(
@@ -29,13 +30,13 @@ pub fn block(
     array_out: &mut [f32],
     scratch: &mut [f32],
     n: usize,
-) -> u32
+) -> Result<(), Refusal>
     ensures { Answers (lent_of description.now weights.now histories.old positions.old input.now condition.now
         head_in.now head_out.old array_out.old scratch.old) n (block_refusal (lent_of description.now weights.now histories.old positions.old input.now condition.now
         head_in.now head_out.old array_out.old scratch.old) n)
-        (left_of result histories.new positions.new head_out.new array_out.new scratch.new) }
+        (left_of (number_of result) histories.new positions.new head_out.new array_out.new scratch.new) }
 {
-    let checked = admit::call(
+    let sizes = admit::call(
         description,
         weights,
         histories,
@@ -47,12 +48,9 @@ pub fn block(
         array_out,
         scratch,
         n,
-    );
-    let Checked::Sound(sizes) = checked else {
-        return checked.number();
-    };
+    )?;
     if n == 0 {
-        return 0;
+        return Ok(());
     }
     let size = sizes.widest * n;
     let used = REGIONS * size;
@@ -70,7 +68,7 @@ pub fn block(
         size,
         n,
     );
-    0
+    Ok(())
 }
 
 // A single column: 0, or the refusal 1 to 5, 7 or 8. It is a block of one, for which 6 is never given.
@@ -85,11 +83,11 @@ pub fn column(
     head_out: &mut [f32],
     array_out: &mut [f32],
     scratch: &mut [f32],
-) -> u32
+) -> Result<(), Refusal>
     ensures { Answers (lent_of description.now weights.now histories.old positions.old input.now condition.now
         head_in.now head_out.old array_out.old scratch.old) 1 (column_refusal (lent_of description.now weights.now histories.old positions.old input.now condition.now
         head_in.now head_out.old array_out.old scratch.old))
-        (left_of result histories.new positions.new head_out.new array_out.new scratch.new) }
+        (left_of (number_of result) histories.new positions.new head_out.new array_out.new scratch.new) }
 {
     block(
         description,
@@ -120,13 +118,13 @@ pub fn planned(
     scratch: &mut [f32],
     n: usize,
     plan: &[u32],
-) -> u32
+) -> Result<(), Refusal>
     ensures { Answers (lent_of description.now weights.now histories.old positions.old input.now condition.now
         head_in.now head_out.old array_out.old scratch.old) n (planned_refusal (lent_of description.now weights.now histories.old positions.old input.now condition.now
         head_in.now head_out.old array_out.old scratch.old) n plan.now)
-        (left_of result histories.new positions.new head_out.new array_out.new scratch.new) }
+        (left_of (number_of result) histories.new positions.new head_out.new array_out.new scratch.new) }
 {
-    let checked = admit::call(
+    let sizes = admit::call(
         description,
         weights,
         histories,
@@ -138,16 +136,13 @@ pub fn planned(
         array_out,
         scratch,
         n,
-    );
-    let Checked::Sound(sizes) = checked else {
-        return checked.number();
-    };
+    )?;
     let a = read_array(description);
     if !keeps_rule(plan, a.layers + 2, n) {
-        return 9;
+        return Err(Refusal::Plan);
     }
     if n == 0 {
-        return 0;
+        return Ok(());
     }
     let size = sizes.widest * n;
     let used = REGIONS * size;
@@ -166,5 +161,5 @@ pub fn planned(
         size,
         n,
     );
-    0
+    Ok(())
 }

@@ -18,7 +18,7 @@ fn after_stage(description: &[u32], a: ArrayRecord, start: Place, k: usize) -> P
     ensures { result ≡ start_of description.now (suc k) }
 {
     if k == 0 {
-        return start.past(rechannel(a));
+        return start.past(Some(rechannel(a)));
     }
     let l = k - 1;
     let layers = a.layers;
@@ -26,7 +26,7 @@ fn after_stage(description: &[u32], a: ArrayRecord, start: Place, k: usize) -> P
         let slots = slots_from(a, layer_record(description, l), start);
         return slots.end;
     }
-    start.past(head_rechannel(a))
+    start.past(Some(head_rechannel(a)))
 }
 
 // Those of all stages, in three lists.

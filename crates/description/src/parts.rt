@@ -11,30 +11,32 @@ use shape::Shape;
 // A slot of the list of parts: none where a 0 makes the part absent.
 pub type Part = Option<Shape>;
 
-pub fn rechannel(a: ArrayRecord) -> Part
-    ensures { result ≡ rechannel_of a }
+// The first part, which is always there.
+pub fn rechannel(a: ArrayRecord) -> Shape
+    ensures { Some result ≡ rechannel_of a }
 {
-    Some(Shape {
+    Shape {
         ins: a.input,
         outs: a.channels,
         kernel: 1,
         dilation: 1,
         groups: 1,
         biased: false,
-    })
+    }
 }
 
-pub fn head_rechannel(a: ArrayRecord) -> Part
-    ensures { result ≡ head_rechannel_of a }
+// The last part, which is always there.
+pub fn head_rechannel(a: ArrayRecord) -> Shape
+    ensures { Some result ≡ head_rechannel_of a }
 {
-    Some(Shape {
+    Shape {
         ins: a.head_in,
         outs: a.head_size,
         kernel: a.head_kernel,
         dilation: 1,
         groups: 1,
         biased: a.head_bias,
-    })
+    }
 }
 
 // The width of what a layer's conv and mixin give.

@@ -36,12 +36,12 @@ pub fn part_at(description: &[u32], a: ArrayRecord, i: usize) -> Part
     ensures { result ≡ get_or (parts_of description.now) i None }
 {
     if i == 0 {
-        return rechannel(a);
+        return Some(rechannel(a));
     }
     let l = (i - 1) / SLOTS;
     let layers = a.layers;
     if l == layers {
-        return head_rechannel(a);
+        return Some(head_rechannel(a));
     }
     slot(a, layer_record(description, l), (i - 1) % SLOTS)
 }

@@ -92,7 +92,7 @@ impl Tally {
             histories: 0,
             positions: 0,
         };
-        let place = origin.past(rechannel(a));
+        let place = origin.past(Some(rechannel(a)));
         let counted = Counted {
             place,
             uneven: false,
@@ -132,7 +132,7 @@ impl Tally {
     {
         let counted = self.counted;
         let before = counted.place;
-        let place = before.past(head_rechannel(a));
+        let place = before.past(Some(head_rechannel(a)));
         if counted.uneven {
             return Err(Refusal::Groups);
         }

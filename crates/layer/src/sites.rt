@@ -54,7 +54,7 @@ fn applied_site(a: ArrayRecord, r: LayerRecord, i: usize) -> Part
     let mode = r.mode;
     let applies = blended(mode);
     if (i == 6) & !applies {
-        return Part::Absent;
+        return None;
     }
     slot(a, r, 4 + i)
 }
@@ -80,7 +80,7 @@ pub fn convolve(
     ensures { ConvPast a r slots.conv weights.now size m work.old histories.old positions.old
         work.new histories.new positions.new k from to }
 {
-    let Part::There(sh) = core(a, r, k) else {
+    let Some(sh) = core(a, r, k) else {
         return;
     };
     let at = slots.place(k);

@@ -9,14 +9,15 @@ ghost use Rattle.description.specs.Ranges.{Fits};
 ghost use Rattle.description.specs.Records.{array_of};
 ghost use Rattle.description.specs.Refusals.{refusal_of};
 ghost use Rattle.description.specs.Sizes.{positions_of, total};
+ghost use Rattle.refusal.specs.Number.{number_of};
 ghost use Rattle.reset.specs.Resets.{Resets, silence_of, start_of, starts_of};
 
-use description::answers::Checked;
 use description::check::check;
 use description::numbers::SLOTS;
 use description::parts::Part;
 use description::read::part_at;
 use description::records::{ArrayRecord, read_array};
+use refusal::Refusal;
 
 // Every number +0.
 fn silence(histories: &mut [f32])
@@ -36,8 +37,8 @@ fn rewind_part(positions: &mut [u32], at: usize, part: Part) -> usize
     ensures positions_after { positions.new ≡ sets positions.old at (start_of part) }
 {
     match part {
-        Part::Absent => at,
-        Part::There(sh) => {
+        None => at,
+        Some(sh) => {
             let length = sh.ring_length();
             positions[at] = (length - 1) as u32;
             at + 1
@@ -60,20 +61,17 @@ fn rewind(description: &[u32], a: ArrayRecord, positions: &mut [u32])
     }
 }
 
-pub fn reset(description: &[u32], histories: &mut [f32], positions: &mut [u32]) -> u32
-    ensures { Resets description.now histories.old positions.old result histories.new positions.new }
+pub fn reset(description: &[u32], histories: &mut [f32], positions: &mut [u32]) -> Result<(), Refusal>
+    ensures { Resets description.now histories.old positions.old (number_of result) histories.new positions.new }
 {
-    let checked = check(description);
-    let Checked::Sound(sizes) = checked else {
-        return checked.number();
-    };
+    let sizes = check(description)?;
     if histories.len() != sizes.histories {
-        return 7;
+        return Err(Refusal::BufferLength);
     }
     if positions.len() != sizes.positions {
-        return 7;
+        return Err(Refusal::BufferLength);
     }
     silence(histories);
     rewind(description, read_array(description), positions);
-    0
+    Ok(())
 }

@@ -76,7 +76,7 @@ pub fn site_in(
     ensures { Sited part shifted at weights.now w width m condition to to s rows to work.old histories.old positions.old
         work.new histories.new positions.new }
 {
-    let Part::There(sh) = part else {
+    let Some(sh) = part else {
         return;
     };
     play(
@@ -110,7 +110,7 @@ pub fn site_to(
     ensures { Sited part shifted at weights.now w width m condition from to s rows result work.old histories.old positions.old
         work.new histories.new positions.new }
 {
-    let Part::There(sh) = part else {
+    let Some(sh) = part else {
         return from;
     };
     play(

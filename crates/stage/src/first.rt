@@ -6,7 +6,7 @@ ghost use Rattle.array.specs.Turn.{start_of};
 ghost use Rattle.stage.specs.Turns.{StageFits, FirstTurn};
 
 use crate::span::Span;
-use description::parts::{Part, rechannel};
+use description::parts::rechannel;
 use description::places::Place;
 use description::records::read_array;
 
@@ -29,9 +29,7 @@ pub fn rechannel_turn(
         histories.new positions.new scratch.new input.now head_in.now }
 {
     let a = read_array(description);
-    let Part::There(sh) = rechannel(a) else {
-        return start;
-    };
+    let sh = rechannel(a);
     let size = span.size;
     let n = span.n;
     let from = span.from;
@@ -48,5 +46,5 @@ pub fn rechannel_turn(
     );
     carry::columns_within(scratch, from, n, out, count, channels, count);
     carry::columns(scratch, head_in, size + from, n, from, n, width, count);
-    start.past(Part::There(sh))
+    start.past(Some(sh))
 }

@@ -6,7 +6,7 @@ ghost use Rattle.array.specs.Turn.{start_of};
 ghost use Rattle.stage.specs.Turns.{StageFits, LastTurn};
 
 use crate::span::Span;
-use description::parts::{Part, head_rechannel};
+use description::parts::head_rechannel;
 use description::places::Place;
 use description::records::read_array;
 
@@ -31,9 +31,7 @@ pub fn head_turn(
         head_out.old array_out.old head_out.new array_out.new }
 {
     let a = read_array(description);
-    let Part::There(sh) = head_rechannel(a) else {
-        return start;
-    };
+    let sh = head_rechannel(a);
     let size = span.size;
     let n = span.n;
     let from = span.from;
@@ -50,5 +48,5 @@ pub fn head_turn(
     );
     carry::columns(head_out, scratch, from, n, out, count, outs, count);
     carry::columns(array_out, scratch, from, n, from, n, channels, count);
-    start.past(Part::There(sh))
+    start.past(Some(sh))
 }

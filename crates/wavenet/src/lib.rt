@@ -14,7 +14,8 @@ ghost use Rattle.admit.specs.Admits.{lent_of};
 ghost use Rattle.calls.specs.Fit.{left_of};
 ghost use Rattle.wavenet.specs.Small.{Small};
 
-use description::answers::{Checked, Sizes};
+use description::answers::Sizes;
+use refusal::answer;
 
 // e^x, by E.
 #[unsafe(no_mangle)]
@@ -53,11 +54,11 @@ pub extern "C" fn wavenet_sizes(description: &[u32], sizes: &mut [u32; 5]) -> u3
     ensures sizes_after { sizes.new ≡ cond (eqb result 0) (listed (sizes_of description.now)) sizes.old }
 {
     match description::sizes(description) {
-        Checked::Refused(number) => number,
-        Checked::Sound(s) => {
+        Ok(s) => {
             *sizes = numbers(s);
             0
         }
+        Err(refusal) => u32::from(refusal),
     }
 }
 
@@ -70,7 +71,7 @@ pub extern "C" fn wavenet_reset(
 ) -> u32
     ensures { Resets description.now histories.old positions.old result histories.new positions.new }
 {
-    reset::reset(description, histories, positions)
+    answer(reset::reset(description, histories, positions))
 }
 
 // A single column: 0 and the outputs, histories and positions of the recurrence; or the refusal 1 to 5, 7 or 8, and all buffers stay as they were.
@@ -92,7 +93,7 @@ pub extern "C" fn wavenet_column(
         head_in.now head_out.old array_out.old scratch.old))
         (left_of result histories.new positions.new head_out.new array_out.new scratch.new) }
 {
-    calls::column(
+    answer(calls::column(
         description,
         weights,
         histories,
@@ -103,7 +104,7 @@ pub extern "C" fn wavenet_column(
         head_out,
         array_out,
         scratch,
-    )
+    ))
 }
 
 // A block of n columns, planar: 0, or the refusal 1 to 8.
@@ -126,7 +127,7 @@ pub extern "C" fn wavenet_block(
         head_in.now head_out.old array_out.old scratch.old) n)
         (left_of result histories.new positions.new head_out.new array_out.new scratch.new) }
 {
-    calls::block(
+    answer(calls::block(
         description,
         weights,
         histories,
@@ -138,7 +139,7 @@ pub extern "C" fn wavenet_block(
         array_out,
         scratch,
         n,
-    )
+    ))
 }
 
 // A block of n columns in the turns of a plan: 0, or the refusal 1 to 9.
@@ -162,7 +163,7 @@ pub extern "C" fn wavenet_planned(
         head_in.now head_out.old array_out.old scratch.old) n plan.now)
         (left_of result histories.new positions.new head_out.new array_out.new scratch.new) }
 {
-    calls::planned(
+    answer(calls::planned(
         description,
         weights,
         histories,
@@ -175,5 +176,5 @@ pub extern "C" fn wavenet_planned(
         scratch,
         n,
         plan,
-    )
+    ))
 }

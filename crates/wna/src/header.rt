@@ -2,6 +2,7 @@
 ghost use Rattle.wna.specs.Header.{HeaderAnswers};
 
 use crate::words::{half, word};
+use refusal::Refusal;
 
 // The most numbers of a description that the program has room for.
 pub const MOST_NUMBERS: usize = 584;
@@ -18,44 +19,37 @@ pub struct Header {
     pub columns: u32,
 }
 
-// A header's reading: its refusal number, 10 or 11, or its numbers.
-#[derive(Clone, Copy)]
-pub enum HeaderAnswer {
-    Refused(u32),
-    Whole(Header),
-}
-
 // A file that ends within the header lends what there is.
-pub fn read_header(bytes: &[u8]) -> HeaderAnswer
+pub fn read_header(bytes: &[u8]) -> Result<Header, Refusal>
     ensures { HeaderAnswers bytes.now result }
 {
     if bytes.len() < HEADER_LENGTH {
-        return HeaderAnswer::Refused(10);
+        return Err(Refusal::File);
     }
     if bytes[0] != b'W' {
-        return HeaderAnswer::Refused(10);
+        return Err(Refusal::File);
     }
     if bytes[1] != b'N' {
-        return HeaderAnswer::Refused(10);
+        return Err(Refusal::File);
     }
     if bytes[2] != b'A' {
-        return HeaderAnswer::Refused(10);
+        return Err(Refusal::File);
     }
     if half(bytes, 3) != 1 {
-        return HeaderAnswer::Refused(10);
+        return Err(Refusal::File);
     }
     let block = half(bytes, 5);
     if block == 0 {
-        return HeaderAnswer::Refused(10);
+        return Err(Refusal::File);
     }
     if LARGEST_BLOCK < block {
-        return HeaderAnswer::Refused(10);
+        return Err(Refusal::File);
     }
     let count = word(bytes, 7);
     if MOST_NUMBERS < count {
-        return HeaderAnswer::Refused(11);
+        return Err(Refusal::Room);
     }
-    HeaderAnswer::Whole(Header {
+    Ok(Header {
         block,
         count,
         columns: word(bytes, 11) as u32,
