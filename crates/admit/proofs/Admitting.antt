@@ -58,7 +58,6 @@ module _ (b : Lent) (n : ℕ) {checked : Checked} (answer : Answers b.descriptio
     widest_low = omega (arith, ap (λ (s : Sizes). s.widest) sizes_are, widest_most b.description described)
 
     pub many_columns : 1024 < n → Admits b n (Err 6)
-    unfolding number_of
     many_columns lt =
         let z : block_refusal b n ≡ 6 = (six_exactly_when b n).1 (described, too_many n lt) in
         refusing b n (sym z) (λ q. omega arith)
@@ -72,7 +71,6 @@ module _ (b : Lent) (n : ℕ) {checked : Checked} (answer : Answers b.descriptio
           ∙ ap (λ (s : Sizes). differing (lengths_of b) (array_of b.description) s n) sizes_are
 
       pub other_lengths : differ ≡ true → Admits b n (Err 7)
-      unfolding number_of
       other_lengths t =
           let z : block_refusal b n ≡ 7 = (seven_exactly_when b n).1 (described, few n le, sym seven_is ∙ t) in
           refusing b n (sym z) (λ q. omega arith)
@@ -87,13 +85,11 @@ module _ (b : Lent) (n : ℕ) {checked : Checked} (answer : Answers b.descriptio
           eight_is = fe
 
           pub far_position : far ≡ true → Admits b n (Err 8)
-          unfolding number_of
           far_position t =
               let z : block_refusal b n ≡ 8 = (eight_exactly_when b n).1 (described, few n le, sym seven_is ∙ f, sym eight_is ∙ t) in
               refusing b n (sym z) (λ q. omega arith)
 
           pub done : far ≡ false → Admits b n (Ok s)
-          unfolding number_of
           done t =
               record {
                 number = sym ((none_exactly_when b n).1 (described, few n le, sym seven_is ∙ f, sym eight_is ∙ t));

@@ -142,7 +142,6 @@ never : {k : ℕ} {s : Sizes} → Err k ≡ Ok s → ⊥
 never e = let z : ◌≡◌ {A = ℕ} 0 1 = cc in omega arith
 
 answer_by : (z : Bool) (m : ℕ) (s : Sizes) (r : Checked) → z ≡ eqb m 0 → number_of r ≡ m → (m ≡ 0 → r ≡ Ok s) → r ≡ cond z (Ok s) (Err m)
-unfolding number_of
 answer_by true m s r e number sound = sound (eqb-true m 0 (sym e))
 answer_by false m s (Err k) e number sound = ap Err number
 answer_by false m s (Ok t) e number sound = absurd (eqb-false m 0 (sym e) (sym number))
@@ -157,9 +156,7 @@ module _ {b : Lent} {n : ℕ} where
 
   -- sizes are handed back of a call that is not refused, and they are the formulas
   pub sound_only : {s : Sizes} → Admits b n (Ok s) → (block_refusal b n ≡ 0) × (s ≡ sizes_of b.description)
-  unfolding number_of
   sound_only a = let z = sym a.number in (z, sound_of (a.sound z))
 
   pub refused_only : {k : ℕ} → Admits b n (Err k) → (k ≡ block_refusal b n) × (block_refusal b n ≡ 0 → ⊥)
-  unfolding number_of
   refused_only a = (a.number, λ z. never (a.sound z))

@@ -48,7 +48,7 @@ is_broken false n = absurd (omega arith)
 
 module _ (d : List ℕ) (l : ℕ) where
   broken : breaks_layer d l ≡ true → LayerAnswers d l (Err Range)
-  unfolding number_of number records_of
+  unfolding records_of
   broken e = record { number = rw e; values = rw e }
 
   pub broken_range : breaks_range layer_limits d (record_at l) ≡ true → LayerAnswers d l (Err Range)
@@ -60,16 +60,15 @@ module _ (d : List ℕ) (l : ℕ) where
   broken_zeros e = broken (rw e (or-true (breaks_range layer_limits d (record_at l))))
 
   pub whole : {r : LayerRecord} → breaks_range layer_limits d (record_at l) ≡ false → breaks_zero_rule d (record_at l) ≡ false → r ≡ layer_of d l → LayerAnswers d l (Ok r)
-  unfolding breaks_layer number_of number records_of
+  unfolding breaks_layer records_of
   whole e f q = record { number = rw (e, f); values = rw (e, f) (ap (λ (r : LayerRecord). r ∷ []) q) }
 
   -- and back: what an answer tells
   pub read_whole : {r : LayerRecord} → LayerAnswers d l (Ok r) → (breaks_layer d l ≡ false) × (r ≡ layer_of d l)
-  unfolding number_of number records_of
+  unfolding records_of
   read_whole a = not_broken (breaks_layer d l) a.number a.values
 
   pub read_broken : LayerAnswers d l (Err Range) → breaks_layer d l ≡ true
-  unfolding number_of number
   read_broken a = is_broken (breaks_layer d l) a.number
 
 -- the answer that the definitions give
@@ -83,7 +82,6 @@ checked_of d =
 number_by : (a b c e f : Bool) (s : Sizes)
     → number_of (cond a (Err DescriptionLength) (cond b (Err Range) (cond c (Err Groups) (cond e (Err Widths) (cond f (Err TooLarge) (Ok s))))))
     ≡ cond a 1 (cond b 2 (cond c 3 (cond e 4 (cond f 5 0))))
-unfolding number_of number
 number_by true b c e f s = refl
 number_by false true c e f s = refl
 number_by false false true e f s = refl
@@ -139,7 +137,6 @@ broken_layer d l e lt f =
 -- a layer's refusal is the description's
 pub layer_refused : (d : List ℕ) (l : ℕ) {refusal : Refusal} {r : LayerAnswer} → refused1 d ≡ false → l < layer_count d → LayerAnswers d l r → r ≡ Err refusal
     → Answers d (Err refusal)
-unfolding number_of number
 layer_refused d l {refusal} e lt a is =
     let number_is : number refusal ≡ cond (breaks_layer d l) 2 0 = subst (λ (x : LayerAnswer). number_of x ≡ cond (breaks_layer d l) 2 0) is a.number in
     let b = refused_broken (breaks_layer d l) (number_above refusal) number_is in

@@ -140,7 +140,7 @@ sound_of e = cc
 
 -- what the answer has to be
 answer_by : (b : Bool) (n : ℕ) (s : Sizes) (r : Checked) → number_of r ≡ n → values_of r ≡ cond b (listed s) [] → r ≡ cond b (Ok s) (Err (named n))
-unfolding number_of values_of
+unfolding values_of
 answer_by true n s (Err m) e v = absurd (empty s v)
 answer_by true n s (Ok t) e v = ap Ok (same_sizes t s v)
 answer_by false n s (Err m) e v = ap Err (sym (named_number m) ∙ ap named e)
@@ -162,9 +162,8 @@ refusal_is d a ne = rw (ne_eqb (refusal_of d) 0 ne) at (answer_is d a)
 
 -- and back: sizes are handed back of what is not refused, and they are the formulas
 pub sound_only : (d : List ℕ) {s : Sizes} → Answers d (Ok s) → (refusal_of d ≡ 0) × (s ≡ sizes_of d)
-unfolding number_of
 sound_only d {s} a = let z = sym a.number in (z, sound_of (sizes_are d a z))
 
 pub refused_only : (d : List ℕ) {refusal : Refusal} → Answers d (Err refusal) → (number refusal ≡ refusal_of d) × (eqb (refusal_of d) 0 ≡ false)
-unfolding number_of values_of
+unfolding values_of
 refused_only d a = (a.number, no_values (eqb (refusal_of d) 0) (sizes_of d) a.values)

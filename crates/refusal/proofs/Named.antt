@@ -13,7 +13,7 @@ named n =
     Room
 
 pub named_number : (r : Refusal) → named (number r) ≡ r
-unfolding named number
+unfolding named
 named_number DescriptionLength = refl
 named_number Range = refl
 named_number Groups = refl
@@ -30,7 +30,6 @@ pub same_number : {r s : Refusal} → number r ≡ number s → r ≡ s
 same_number {r} {s} e = sym (named_number r) ∙ ap named e ∙ named_number s
 
 pub number_above : (r : Refusal) → 0 < number r
-unfolding number
 number_above DescriptionLength = omega arith
 number_above Range = omega arith
 number_above Groups = omega arith

@@ -3,7 +3,7 @@ use Rattle.std.specs.Prelude.{ℕ, Result, Ok, Err}
 use Rattle.refusal.specs.declared.Refusal.{Refusal}
 use Rattle.refusal.specs.declared.Refusal.TheVariants.{DescriptionLength, Range, Groups, Widths, TooLarge, BlockSize, BufferLength, Position, Plan, File, Room}
 
-unfoldable pub number : Refusal → ℕ
+abbrev pub number : Refusal → ℕ
 number DescriptionLength = 1
 number Range = 2
 number Groups = 3
@@ -17,6 +17,6 @@ number File = 10
 number Room = 11
 
 -- the number of an answer: 0 where nothing is refused
-unfoldable pub number_of : {T : Type 0} → Result T Refusal → ℕ
+abbrev pub number_of : {T : Type 0} → Result T Refusal → ℕ
 number_of (Ok value) = 0
 number_of (Err refusal) = number refusal

@@ -9,7 +9,8 @@ use lib.ListN.{length}
 use lib.Ieee.{Float}
 use borrow.Author.Tests.{eq-eqb, ne_eqb}
 use Rattle.description.specs.Answers.{Answers}
-use Rattle.refusal.specs.Number.{number_of}
+use Rattle.refusal.specs.declared.Refusal.{Refusal}
+use Rattle.refusal.specs.Number.{number}
 use Rattle.description.specs.Parts.{parts_of}
 use Rattle.description.specs.Refusals.{refusal_of}
 use Rattle.description.specs.Sizes.{histories_of, positions_of, sizes_of, total}
@@ -20,12 +21,11 @@ use Rattle.reset.specs.Resets.{Resets, refused7, reset_number, silence_of, start
 
 module _ (d : List ℕ) (histories : List Float) (positions : List ℕ) {checked : Checked} (answer : Answers d checked) where
   -- the description is refused
-  pub refused : {n r : ℕ} → checked ≡ Err n → r ≡ number_of checked → Resets d histories positions r histories positions
-  unfolding reset_number number_of
-  refused {n} {r} e q =
+  pub refused : {refusal : Refusal} → checked ≡ Err refusal → Resets d histories positions (number refusal) histories positions
+  unfolding reset_number
+  refused e =
       let a = refused_only d (subst (Answers d) e answer) in
-      let r-is : r ≡ refusal_of d = q ∙ ap number_of e ∙ a.0 in
-      record { number = rw a.1 r-is; silent = rw (r-is, a.1); rewound = rw (r-is, a.1) }
+      record { number = rw a.1 a.0; silent = rw (a.0, a.1); rewound = rw (a.0, a.1) }
 
   module _ {s : Sizes} (e : checked ≡ Ok s) where
     sizes_is : (refusal_of d ≡ 0) × (s ≡ sizes_of d)

@@ -113,7 +113,7 @@ has_room s block e =
     (ltb-false _ _ r.0, ltb-false _ _ r.1, ltb-false _ _ r.2)
 
 pub opened_is : {numbers f numbers' : List ℕ} {block : ℕ} {s : Sizes} → Described numbers f block (Ok s) numbers' → Opened numbers' s block
-unfolding description_refusal number_of
+unfolding description_refusal
 opened_is {numbers} {f} {numbers'} {block} {s} a =
     let d = words_of (length numbers) f in
     let p = open_only (short_for (length numbers) f) (no_room (sizes_of d) block) (refusal_of d) a.number in

@@ -32,7 +32,7 @@ long n f h = le-ltb (length f) (4 * n) h
 
 module _ (numbers f : List ℕ) (block : ℕ) where
   pub cut : length f < 4 * length numbers → Described numbers f block (Err 10) numbers
-  unfolding description_refusal number_of values_of
+  unfolding description_refusal values_of
   cut h =
       let s = short (length numbers) f h in
       record { number = rw s; values = refl; unpacked = rw s }
@@ -49,7 +49,7 @@ module _ (numbers f : List ℕ) (block : ℕ) where
     is = subst (λ (l : List ℕ). Answers l checked) e answer
 
     pub wrong : {n : ℕ} → checked ≡ Err n → Described numbers f block checked numbers'
-    unfolding description_refusal d number_of values_of
+    unfolding description_refusal d values_of
     wrong {n} q =
         let a = refused_only d (subst (Answers d) q is) in
         record {
@@ -67,7 +67,7 @@ module _ (numbers f : List ℕ) (block : ℕ) where
       low = rw (ap (λ (s : Sizes). s.widest) sizes_is.1) (widest_most d sizes_is.0)
 
       pub crowded : no_room s block ≡ true → Described numbers f block (Err 11) numbers'
-      unfolding description_refusal d number_of values_of
+      unfolding description_refusal d values_of
       crowded r =
           record {
             number = rw (ok, eq-eqb (refusal_of d) 0 sizes_is.0, sym (ap (λ (s : Sizes). no_room s block) sizes_is.1), r);
@@ -76,7 +76,7 @@ module _ (numbers f : List ℕ) (block : ℕ) where
           }
 
       pub opened : no_room s block ≡ false → Described numbers f block (Ok s) numbers'
-      unfolding description_refusal d number_of values_of
+      unfolding description_refusal d values_of
       opened r =
           record {
             number = rw (ok, eq-eqb (refusal_of d) 0 sizes_is.0, sym (ap (λ (s : Sizes). no_room s block) sizes_is.1), r);

@@ -4,9 +4,7 @@ use Rattle.refusal.specs.Number.{number_of}
 use Rattle.refusal.proofs.answer.Goals as goal
 
 pub returns-in-Ok : goal.returns-in-Ok
-unfolding number_of
 returns-in-Ok c = rw c.in-Ok.is
 
 pub returns-in-Err : goal.returns-in-Err
-unfolding number_of
 returns-in-Err c = rw c.in-Err.is c.from.ensures

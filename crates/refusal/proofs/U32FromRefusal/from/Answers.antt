@@ -8,7 +8,6 @@ use denote.Enum.Declared.{tag_of}
 use Rattle.refusal.proofs.U32FromRefusal.from.Goals as goal
 
 told : (refusal : Refusal) → tag_of the_type refusal + 1 ≡ number refusal
-unfolding number
 told DescriptionLength = refl
 told Range = refl
 told Groups = refl
