@@ -8,6 +8,8 @@ use native.Mathlib.Omega.{arith}
 use lib.ListN.{length}
 use borrow.Author.Tests.{eqb-false}
 use Rattle.description.specs.Answers.{Answers}
+use Rattle.refusal.specs.declared.Refusal.{Refusal}
+use Rattle.refusal.specs.declared.Refusal.TheVariants.{BlockSize, BufferLength, Position}
 use Rattle.refusal.specs.Number.{number_of}
 use Rattle.description.specs.Parts.{parts_of}
 use Rattle.description.specs.Records.{array_of}
@@ -39,12 +41,12 @@ refusing b n e ne = record { number = e; sound = λ z. absurd (ne z) }
 
 module _ (b : Lent) (n : ℕ) {checked : Checked} (answer : Answers b.description checked) where
   -- the description is refused
-  pub refused : {k : ℕ} → checked ≡ Err k → Admits b n checked
+  pub refused : {refusal : Refusal} → checked ≡ Err refusal → Admits b n (Err refusal)
   refused e =
       let a = refused_only b.description (subst (Answers b.description) e answer) in
       let ne = eqb-false (refusal_of b.description) 0 a.1 in
       let same : block_refusal b n ≡ refusal_of b.description = low_refused b n ne in
-      refusing b n (answer.number ∙ sym same) (λ z. ne (sym same ∙ z))
+      subst (Admits b n) e (refusing b n (answer.number ∙ sym same) (λ z. ne (sym same ∙ z)))
 
   module _ {s : Sizes} (e : checked ≡ Ok s) where
     pub described : refusal_of b.description ≡ 0
@@ -57,7 +59,7 @@ module _ (b : Lent) (n : ℕ) {checked : Checked} (answer : Answers b.descriptio
     unfolding sizes_of
     widest_low = omega (arith, ap (λ (s : Sizes). s.widest) sizes_are, widest_most b.description described)
 
-    pub many_columns : 1024 < n → Admits b n (Err 6)
+    pub many_columns : 1024 < n → Admits b n (Err BlockSize)
     many_columns lt =
         let z : block_refusal b n ≡ 6 = (six_exactly_when b n).1 (described, too_many n lt) in
         refusing b n (sym z) (λ q. omega arith)
@@ -70,7 +72,7 @@ module _ (b : Lent) (n : ℕ) {checked : Checked} (answer : Answers b.descriptio
           ∙ ap (λ (a : ArrayRecord). differing (lengths_of b) a s n) ae
           ∙ ap (λ (s : Sizes). differing (lengths_of b) (array_of b.description) s n) sizes_are
 
-      pub other_lengths : differ ≡ true → Admits b n (Err 7)
+      pub other_lengths : differ ≡ true → Admits b n (Err BufferLength)
       other_lengths t =
           let z : block_refusal b n ≡ 7 = (seven_exactly_when b n).1 (described, few n le, sym seven_is ∙ t) in
           refusing b n (sym z) (λ q. omega arith)
@@ -84,7 +86,7 @@ module _ (b : Lent) (n : ℕ) {checked : Checked} (answer : Answers b.descriptio
           unfolding refused8
           eight_is = fe
 
-          pub far_position : far ≡ true → Admits b n (Err 8)
+          pub far_position : far ≡ true → Admits b n (Err Position)
           far_position t =
               let z : block_refusal b n ≡ 8 = (eight_exactly_when b n).1 (described, few n le, sym seven_is ∙ f, sym eight_is ∙ t) in
               refusing b n (sym z) (λ q. omega arith)

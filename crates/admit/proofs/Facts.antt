@@ -12,7 +12,9 @@ use borrow.Author.Tests.{eqb-false, eqb-true, ne_eqb, not-false, not-true}
 use Rattle.turns.specs.Plan.{keeps_rule}
 use Rattle.description.specs.Sizes.{sizes_of}
 use Rattle.description.specs.Refusals.{refusal_of}
-use Rattle.refusal.specs.Number.{number_of}
+use Rattle.refusal.specs.declared.Refusal.{Refusal}
+use Rattle.refusal.specs.Number.{number, number_of}
+use Rattle.refusal.proofs.Named.{named, named_number}
 use Rattle.description.specs.declared.answers.Sizes.{Sizes}
 use Rattle.description.specs.Checked.{Checked}
 use Rattle.description.proofs.Facts.{First, refusal_exactly_when, refusal_most, tests_of}
@@ -135,19 +137,19 @@ unfolding column_refusal block_refusal refused6
 column_is_block b = rw (same (refusal_of b.description) 6)
 
 -- what the answer has to be
-sound_of : {s t : Sizes} → Ok s ≡ Ok t → s ≡ t
+sound_of : {s t : Sizes} → ◌≡◌ {A = Checked} (Ok s) (Ok t) → s ≡ t
 sound_of e = cc
 
-never : {k : ℕ} {s : Sizes} → Err k ≡ Ok s → ⊥
+never : {refusal : Refusal} {s : Sizes} → ◌≡◌ {A = Checked} (Err refusal) (Ok s) → ⊥
 never e = let z : ◌≡◌ {A = ℕ} 0 1 = cc in omega arith
 
-answer_by : (z : Bool) (m : ℕ) (s : Sizes) (r : Checked) → z ≡ eqb m 0 → number_of r ≡ m → (m ≡ 0 → r ≡ Ok s) → r ≡ cond z (Ok s) (Err m)
+answer_by : (z : Bool) (m : ℕ) (s : Sizes) (r : Checked) → z ≡ eqb m 0 → number_of r ≡ m → (m ≡ 0 → r ≡ Ok s) → r ≡ cond z (Ok s) (Err (named m))
 answer_by true m s r e number sound = sound (eqb-true m 0 (sym e))
-answer_by false m s (Err k) e number sound = ap Err number
+answer_by false m s (Err k) e number sound = ap Err (sym (named_number k) ∙ ap named number)
 answer_by false m s (Ok t) e number sound = absurd (eqb-false m 0 (sym e) (sym number))
 
 module _ {b : Lent} {n : ℕ} where
-  pub answer_is : {r : Checked} → Admits b n r → r ≡ cond (eqb (block_refusal b n) 0) (Ok (sizes_of b.description)) (Err (block_refusal b n))
+  pub answer_is : {r : Checked} → Admits b n r → r ≡ cond (eqb (block_refusal b n) 0) (Ok (sizes_of b.description)) (Err (named (block_refusal b n)))
   answer_is {r} a = answer_by (eqb (block_refusal b n) 0) (block_refusal b n) (sizes_of b.description) r refl a.number a.sound
 
   -- any two answers that meet the contract agree
@@ -158,5 +160,5 @@ module _ {b : Lent} {n : ℕ} where
   pub sound_only : {s : Sizes} → Admits b n (Ok s) → (block_refusal b n ≡ 0) × (s ≡ sizes_of b.description)
   sound_only a = let z = sym a.number in (z, sound_of (a.sound z))
 
-  pub refused_only : {k : ℕ} → Admits b n (Err k) → (k ≡ block_refusal b n) × (block_refusal b n ≡ 0 → ⊥)
+  pub refused_only : {refusal : Refusal} → Admits b n (Err refusal) → (number refusal ≡ block_refusal b n) × (block_refusal b n ≡ 0 → ⊥)
   refused_only a = (a.number, λ z. never (a.sound z))

@@ -13,7 +13,8 @@ use lib.Ieee.{Float}
 use Rattle.lists.specs.Tab.{tab}
 use Rattle.turns.specs.Grid.{states_after}
 use Rattle.turns.specs.Plan.{keeps_rule}
-use Rattle.refusal.specs.Number.{number_of}
+use Rattle.refusal.specs.declared.Refusal.{Refusal}
+use Rattle.refusal.specs.Number.{number}
 use Rattle.description.specs.Records.{array_of}
 use Rattle.description.specs.Sizes.{sizes_of, widest_of}
 use Rattle.description.specs.Checked.{Checked}
@@ -104,17 +105,20 @@ module _ (b : Lent) where
 
   module _ (n : ℕ) {checked : Checked} (answers : Admits b n checked) where
     -- refused by 1 to 8
-    pub block_refused : {k answer : ℕ} → checked ≡ Err k → answer ≡ number_of checked
-        → Answers b n (block_refusal b n) (left_of answer b.histories b.positions b.head_out b.array_out b.scratch)
-    block_refused is e = refused_as b n (block_refusal b n) (refused_only (subst (Admits b n) is answers)).1 (e ∙ answers.number)
+    pub block_refused : {refusal : Refusal} → checked ≡ Err refusal
+        → Answers b n (block_refusal b n) (left_of (number refusal) b.histories b.positions b.head_out b.array_out b.scratch)
+    block_refused is =
+        let told = refused_only (subst (Admits b n) is answers) in
+        refused_as b n (block_refusal b n) told.1 told.0
 
-    pub planned_refused : (plan : List ℕ) {k answer : ℕ} → checked ≡ Err k → answer ≡ number_of checked
-        → Answers b n (planned_refusal b n plan) (left_of answer b.histories b.positions b.head_out b.array_out b.scratch)
+    pub planned_refused : (plan : List ℕ) {refusal : Refusal} → checked ≡ Err refusal
+        → Answers b n (planned_refusal b n plan) (left_of (number refusal) b.histories b.positions b.head_out b.array_out b.scratch)
     unfolding planned_refusal
-    planned_refused plan is e =
-        let ne = (refused_only (subst (Admits b n) is answers)).1 in
+    planned_refused plan is =
+        let told = refused_only (subst (Admits b n) is answers) in
+        let ne = told.1 in
         let q : planned_refusal b n plan ≡ block_refusal b n = rw (ne_eqb (block_refusal b n) 0 ne) in
-        refused_as b n (planned_refusal b n plan) (λ z. ne (sym q ∙ z)) (e ∙ answers.number ∙ sym q)
+        refused_as b n (planned_refusal b n plan) (λ z. ne (sym q ∙ z)) (told.0 ∙ sym q)
 
     module _ {s : Sizes} (is : checked ≡ Ok s) where
       pub sound_block : block_refusal b n ≡ 0

@@ -260,10 +260,6 @@ rechannel_widths d ok e is =
     let o = sym (ap outs_of is) ∙ ap (λ (a : ArrayRecord). a.channels) e in
     (omega (arith, i, array_width_le d ok 0), omega (arith, o, array_width_le d ok 2))
 
-pub rechannel_there : (a : ArrayRecord) {p : Part} → p ≡ rechannel_of a → p ≡ None → ⊥
-unfolding rechannel_of
-rechannel_there a e z = not_both (sym z ∙ e)
-
 pub entry_at : {d : List ℕ} {span : Span} {start : Place} {nweights nhistories : ℕ} {positions : List ℕ} {nscratch : ℕ} → StageFits d span 0 start nweights nhistories positions nscratch
     → start ≡ place_at d 0
 unfolding first_part

@@ -249,7 +249,3 @@ head_widths d ok e is =
     let i = sym (ap ins_of is) ∙ ap (λ (a : ArrayRecord). a.head_in) e in
     let o = sym (ap outs_of is) ∙ ap (λ (a : ArrayRecord). a.head_size) e in
     (omega (arith, i, array_width_le d ok 3), omega (arith, o, array_width_le d ok 4))
-
-pub head_there : (a : ArrayRecord) {p : Part} → p ≡ head_rechannel_of a → p ≡ None → ⊥
-unfolding head_rechannel_of
-head_there a e z = not_both (sym z ∙ e)

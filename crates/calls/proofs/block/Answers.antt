@@ -1,25 +1,26 @@
 -- Each way out meets the contract (Answering): refused, no columns, played.
 use native.Mathlib.Omega.{arith}
+use Rattle.refusal.proofs.PassedOn.{passed_on}
 use Rattle.calls.proofs.Answering.{block_refused, nothing_as, played_as, fit_of, sound_block, sound_admitted, size_is, size_low, used_in, cut_long}
 use Rattle.calls.proofs.block.Goals as goal
 
-pub returns-in_default : goal.returns-in_default
-returns-in_default c = block_refused _ c.args.n c.call-checked.ensures c.in_default.is c.number.ensures
+pub returns-in_err-sizes : goal.returns-in_err-sizes
+returns-in_err-sizes c = rw (passed_on c.from_residual.result c.from_residual.ensures) (block_refused _ c.args.n c.call.ensures c.in_err-sizes.was)
 
 pub returns-then-n-eq0 : goal.returns-then-n-eq0
-returns-then-n-eq0 c = nothing_as _ c.args.n _ (sound_block _ c.args.n c.call-checked.ensures c.in-Ok.is) c.if-n-eq0.true (sound_admitted _ c.args.n c.call-checked.ensures c.in-Ok.is)
+returns-then-n-eq0 c = nothing_as _ c.args.n _ (sound_block _ c.args.n c.call.ensures c.in_ok-sizes.was) c.if-n-eq0.true (sound_admitted _ c.args.n c.call.ensures c.in_ok-sizes.was)
 
 pub overflow_mul-size : goal.overflow_mul-size
-overflow_mul-size c = omega (arith, size_low _ c.args.n c.call-checked.ensures c.in-Ok.is)
+overflow_mul-size c = omega (arith, size_low _ c.args.n c.call.ensures c.in_ok-sizes.was)
 
 pub overflow_mul-used : goal.overflow_mul-used
-overflow_mul-used c = omega (arith, size_low _ c.args.n c.call-checked.ensures c.in-Ok.is)
+overflow_mul-used c = omega (arith, size_low _ c.args.n c.call.ensures c.in_ok-sizes.was)
 
 pub slice_bounds-stages_in_order-end : goal.slice_bounds-stages_in_order-end
-slice_bounds-stages_in_order-end c = omega (arith, used_in _ c.args.n c.call-checked.ensures c.in-Ok.is)
+slice_bounds-stages_in_order-end c = omega (arith, used_in _ c.args.n c.call.ensures c.in_ok-sizes.was)
 
 pub stages_in_order-requires : goal.stages_in_order-requires
-stages_in_order-requires c = fit_of _ c.args.n (sound_admitted _ c.args.n c.call-checked.ensures c.in-Ok.is) c.if-n-eq0.false (size_is _ c.args.n c.call-checked.ensures c.in-Ok.is) (cut_long _ c.args.scratch.now (used_in _ c.args.n c.call-checked.ensures c.in-Ok.is))
+stages_in_order-requires c = fit_of _ c.args.n (sound_admitted _ c.args.n c.call.ensures c.in_ok-sizes.was) c.if-n-eq0.false (size_is _ c.args.n c.call.ensures c.in_ok-sizes.was) (cut_long _ c.args.scratch.now (used_in _ c.args.n c.call.ensures c.in_ok-sizes.was))
 
 pub returns : goal.returns
-returns c = played_as _ c.args.n _ _ _ (sound_block _ c.args.n c.call-checked.ensures c.in-Ok.is) c.stages_in_order.ensures
+returns c = played_as _ c.args.n _ _ _ (sound_block _ c.args.n c.call.ensures c.in_ok-sizes.was) c.stages_in_order.ensures

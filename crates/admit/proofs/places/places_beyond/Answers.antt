@@ -1,4 +1,5 @@
 -- `places_beyond` meets its contract. The loop's invariant: the parts before layer l are passed (Passing).
+use Rattle.std.specs.Prelude.{Some}
 use mathlib.Core.List.{[], ◌∷◌}
 use mathlib.Core.Path.{◌∙◌, ◌≡◌, ap, subst, sym}
 use Prim.Native.Nat.{◌<◌}
@@ -20,14 +21,14 @@ pub part-pass-requires : goal.part-pass-requires
 part-pass-requires c =
     let args = c.args in
     let pre = c.requires in
-    let e : c.rechannel.result ≡ rechannel_of (array_of args.description.now) = c.rechannel.ensures ∙ ap rechannel_of pre.a_value in
+    let e : Some c.rechannel.result ≡ rechannel_of (array_of args.description.now) = c.rechannel.ensures ∙ ap rechannel_of pre.a_value in
     record { fits = subst Fits (sym e) (rechannel_fits (array_in_range args.description.now pre.description_value)); part_in_bounds = omega (arith, ap positions_of e, first_room args.description.now args.positions.now pre.positions_len) }
 
 pub loop-l-init : goal.loop-l-init
 loop-l-init c =
     let args = c.args in
     let pre = c.requires in
-    let e : c.rechannel.result ≡ rechannel_of (array_of args.description.now) = c.rechannel.ensures ∙ ap rechannel_of pre.a_value in
+    let e : Some c.rechannel.result ≡ rechannel_of (array_of args.description.now) = c.rechannel.ensures ∙ ap rechannel_of pre.a_value in
     (search rules, pre.description_value, pre.a_value, pre.positions_len, layers_of args.description.now pre.a_value, first_passed args.description.now args.positions.now pre.positions_len (c.part-pass.ensures ∙ ap (λ (p : Part). passed args.positions.now origin (p ∷ [])) e))
 
 pub layer_record-r-requires : goal.layer_record-r-requires
@@ -50,7 +51,7 @@ pub part-last-requires : goal.part-last-requires
 part-last-requires c =
     let args = c.args in
     let l = c.loop-l in
-    let e : c.head_rechannel.result ≡ head_rechannel_of (array_of args.description.now) = c.head_rechannel.ensures ∙ ap head_rechannel_of l.invariant.2 in
+    let e : Some c.head_rechannel.result ≡ head_rechannel_of (array_of args.description.now) = c.head_rechannel.ensures ∙ ap head_rechannel_of l.invariant.2 in
     let end : l.l ≡ layer_count args.description.now = omega (arith, l.invariant.0, l.invariant.4, c.loop-l-test.false) in
     record { fits = subst Fits (sym e) (head_rechannel_fits (array_in_range args.description.now l.invariant.1)); part_in_bounds = omega (arith, ap positions_of e, last_room args.description.now args.positions.now l.invariant.3 l.l l.invariant.5 end) }
 
@@ -59,6 +60,6 @@ returns c =
     let head-rechannel = c.head_rechannel in
     let args = c.args in
     let l = c.loop-l in
-    let e : head-rechannel.result ≡ head_rechannel_of (array_of args.description.now) = head-rechannel.ensures ∙ ap head_rechannel_of l.invariant.2 in
+    let e : Some head-rechannel.result ≡ head_rechannel_of (array_of args.description.now) = head-rechannel.ensures ∙ ap head_rechannel_of l.invariant.2 in
     let end : l.l ≡ layer_count args.description.now = omega (arith, l.invariant.0, l.invariant.4, c.loop-l-test.false) in
     last_passed args.description.now args.positions.now l.invariant.3 l.l l.invariant.5 end (c.part-last.ensures ∙ ap (λ (p : Part). passed args.positions.now l.pass (p ∷ [])) e)

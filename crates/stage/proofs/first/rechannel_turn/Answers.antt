@@ -3,15 +3,12 @@ use mathlib.Core.Path.{sym, ◌∙◌}
 use native.Mathlib.Omega.{arith}
 use Rattle.description.proofs.Sound.{length_is}
 use Rattle.stage.proofs.Widths.{array_room_of, size_most, compact_in, first_in, second_in, first_apart, count_le, block_as, from_small, play_fits, past_fits}
-use Rattle.stage.proofs.Entry.{entry_turn, rechannel_part, rechannel_widths, rechannel_there, entry_at}
+use Rattle.stage.proofs.Entry.{entry_turn, rechannel_part, rechannel_widths, entry_at}
 use Rattle.description.specs.declared.records.ArrayRecord.{ArrayRecord}
 use Rattle.stage.proofs.first.rechannel_turn.Goals as goal
 
 pub read_array-a-requires : goal.read_array-a-requires
 read_array-a-requires c = omega (arith, length_is c.args.description.now c.requires.stage_fits.sound)
-
-pub returns-in_default : goal.returns-in_default
-returns-in_default c = absurd (rechannel_there c.read_array-a.result c.rechannel.ensures c.in_default.is)
 
 pub overflow_mul-x : goal.overflow_mul-x
 overflow_mul-x c = omega (arith, size_most c.requires.stage_fits)
@@ -32,7 +29,7 @@ columns-requires c = (
 
 pub play-requires : goal.play-requires
 play-requires c =
-    let is = sym c.rechannel.ensures ∙ c.in-Some.is in
+    let is = sym c.rechannel-sh.ensures in
     let w = rechannel_widths c.args.description.now c.requires.stage_fits.sound c.read_array-a.ensures is in
     play_fits c.requires.stage_fits 0 _ (rechannel_part c.args.description.now c.read_array-a.ensures is) (entry_at c.requires.stage_fits) 2 (omega arith) (c.columns.auto.dst ∙ c.requires.stage_fits.scratch_is) w.0 w.1
 
@@ -56,12 +53,12 @@ columns-requires-2 c =
 
 pub past-requires : goal.past-requires
 past-requires c =
-    let is = sym c.rechannel.ensures ∙ c.in-Some.is in
+    let is = sym c.rechannel-sh.ensures in
     let p = past_fits c.requires.stage_fits 0 _ (rechannel_part c.args.description.now c.read_array-a.ensures is) (entry_at c.requires.stage_fits) in
     record { low = p.0; fits = p.1 }
 
 pub returns : goal.returns
 returns c =
-    let is = sym c.rechannel.ensures ∙ c.in-Some.is in
+    let is = sym c.rechannel-sh.ensures in
     let t = entry_turn c.args.input.now c.args.head_in.now _ _ _ _ _ c.read_array-a.result c.read_array-a.ensures c.requires.stage_fits is c.columns.ensures c.play.ensures c.columns_within.ensures c.columns-2.ensures in
     record { value = c.past.ensures ∙ t.0; first_turn = t.1 }

@@ -4,14 +4,11 @@ use native.Mathlib.Omega.{arith}
 use Rattle.description.proofs.Sound.{length_is}
 use Rattle.description.specs.declared.records.ArrayRecord.{ArrayRecord}
 use Rattle.stage.proofs.Widths.{array_room_of, size_most, compact_in, first_in, second_in, apart_second, count_le, block_as, from_small, play_fits, past_fits}
-use Rattle.stage.proofs.Exit.{exit_turn, head_part, head_widths, head_there}
+use Rattle.stage.proofs.Exit.{exit_turn, head_part, head_widths}
 use Rattle.stage.proofs.last.head_turn.Goals as goal
 
 pub read_array-a-requires : goal.read_array-a-requires
 read_array-a-requires c = omega (arith, length_is c.args.description.now c.requires.stage_fits.sound)
-
-pub returns-in_default : goal.returns-in_default
-returns-in_default c = absurd (head_there c.read_array-a.result c.head_rechannel.ensures c.in_default.is)
 
 pub overflow_mul-x : goal.overflow_mul-x
 overflow_mul-x c = omega (arith, size_most c.requires.stage_fits)
@@ -33,7 +30,7 @@ columns_within-requires c =
 
 pub play-requires : goal.play-requires
 play-requires c =
-    let is = sym c.head_rechannel.ensures ∙ c.in-Some.is in
+    let is = sym c.head_rechannel-sh.ensures in
     let w = head_widths c.args.description.now c.requires.stage_fits.sound c.read_array-a.ensures is in
     play_fits c.requires.stage_fits _ _ (head_part c.args.description.now c.read_array-a.ensures is) c.requires.stage_fits.start_is 3 (omega arith) (c.columns_within.auto.work ∙ c.requires.stage_fits.scratch_is) w.0 w.1
 
@@ -57,12 +54,12 @@ columns-requires-2 c =
 
 pub past-requires : goal.past-requires
 past-requires c =
-    let is = sym c.head_rechannel.ensures ∙ c.in-Some.is in
+    let is = sym c.head_rechannel-sh.ensures in
     let p = past_fits c.requires.stage_fits _ _ (head_part c.args.description.now c.read_array-a.ensures is) c.requires.stage_fits.start_is in
     record { low = p.0; fits = p.1 }
 
 pub returns : goal.returns
 returns c =
-    let is = sym c.head_rechannel.ensures ∙ c.in-Some.is in
+    let is = sym c.head_rechannel-sh.ensures in
     let t = exit_turn _ _ _ _ _ _ _ c.read_array-a.result c.read_array-a.ensures c.requires.stage_fits c.requires.head_out_len.0 c.requires.head_out_len.1 is c.columns_within.ensures c.play.ensures c.columns.ensures c.columns-2.ensures in
     record { value = c.past.ensures ∙ t.0; last_turn = t.1 }
