@@ -2,4 +2,4 @@
 use Rattle.wavenet.proofs.wavenet_block.Goals as goal
 
 pub returns : goal.returns
-returns c = c.block.ensures
+returns c = rw c.answer.ensures c.block.ensures

@@ -2,4 +2,4 @@
 use Rattle.wavenet.proofs.wavenet_column.Goals as goal
 
 pub returns : goal.returns
-returns c = c.column.ensures
+returns c = rw c.answer.ensures c.column.ensures

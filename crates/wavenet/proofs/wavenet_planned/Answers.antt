@@ -2,4 +2,4 @@
 use Rattle.wavenet.proofs.wavenet_planned.Goals as goal
 
 pub returns : goal.returns
-returns c = c.planned.ensures
+returns c = rw c.answer.ensures c.planned.ensures
