@@ -5,7 +5,8 @@
 
 ghost use Rattle.std.specs.Prelude.{◌≡◌, ◌+◌, ◌*◌, ◌<◌, ◌≤◌, length};
 
-use description::answers::{Checked, Sizes};
+use description::answers::Sizes;
+use refusal::answer;
 use reading::read_full;
 use std::io;
 use std::io::{Read, Write};
@@ -45,8 +46,8 @@ fn print_sizes<W: Write>(writer: &mut W, s: Sizes) -> io::Result<()> {
 
 fn print_answer<W: Write>(writer: &mut W, d: &[u32]) -> io::Result<()> {
     match description::sizes(d) {
-        Checked::Refused(n) => print(writer, b"refused ", n as usize),
-        Checked::Sound(s) => print_sizes(writer, s),
+        Ok(s) => print_sizes(writer, s),
+        Err(refusal) => print(writer, b"refused ", u32::from(refusal) as usize),
     }
 }
 
@@ -76,7 +77,7 @@ fn print_reset<W: Write>(
     histories: &mut [f32],
     positions: &mut [u32],
 ) -> io::Result<()> {
-    let r = reset::reset(d, histories, positions);
+    let r = answer(reset::reset(d, histories, positions));
     print(writer, b"; reset ", r as usize)?;
     print(writer, b", sounding ", sounding(histories))?;
     print(writer, b", positions ", positions.len())?;

@@ -16,10 +16,9 @@ use Rattle.description.specs.declared.records.ArrayRecord.{ArrayRecord}
 use Rattle.description.proofs.Sound.{array_in_range, array_width_le, length_is, positions_most}
 use Rattle.description.specs.Checked.{Checked}
 use Rattle.reset.specs.Resets.{Resets}
-use Rattle.wna.specs.Header.{HeaderAnswers, LowHeader}
+use Rattle.wna.specs.Header.{HeaderAnswer, HeaderAnswers, LowHeader}
 use Rattle.wna.specs.Opening.{Described, Opened}
 use Rattle.wna.specs.declared.header.Header.{Header}
-use Rattle.wna.specs.HeaderAnswer.{HeaderAnswer}
 use Rattle.wna.proofs.Facts.{header_low, opened_is}
 use Rattle.player.specs.Fits.{Fits, Ready, Suits, Wide}
 use Rattle.player.proofs.Hearing.{reset_heard, reset_passes}
@@ -81,6 +80,12 @@ module _ (d : List ℕ) (s : Sizes) (block : ℕ) (o : Opened d s block) where
 -- what the answers tell, once their case is known
 pub low_by : (f : List ℕ) {r : HeaderAnswer} {h : Header} → HeaderAnswers f r → r ≡ Ok h → LowHeader h
 low_by f a e = header_low f (subst (HeaderAnswers f) e a)
+
+-- the reset is not refused
+pub reset_done : (d : List ℕ) (s : Sizes) (block : ℕ) → Opened d s block → {histories histories' : List Float} {positions positions' : List ℕ} {r : ℕ}
+    → length histories ≡ s.histories → length positions ≡ s.positions → Resets d histories positions r histories' positions' → r ≡ 0
+reset_done d s block o hs ps reset =
+    reset_passes reset o.sound (hs ∙ ap (λ (s : Sizes). s.histories) o.sizes) (ps ∙ ap (λ (s : Sizes). s.positions) o.sizes)
 
 pub opened_by : {numbers f numbers' : List ℕ} {block : ℕ} {r : Checked} {s : Sizes} → Described numbers f block r numbers' → r ≡ Ok s → Opened numbers' s block
 opened_by {numbers} {f} {numbers'} {block} a e = opened_is (subst (λ (r : Checked). Described numbers f block r numbers') e a)

@@ -11,12 +11,12 @@ ghost use Rattle.wna.specs.Header.{LowHeader};
 ghost use Rattle.wna.specs.Opening.{Opened};
 
 use crate::stream::{last, stream};
-use description::answers::{Checked, Sizes};
+use description::answers::Sizes;
 use description::records::read_array;
 use reading::read_full;
 use std::io;
 use std::io::{Read, Write};
-use wna::header::{Header, HeaderAnswer, read_header};
+use wna::header::{Header, read_header};
 use wna::opening::{take_description, take_weights};
 
 // From a reset: all columns, and the last line. The reset's own answer is 0: the buffers have the description's sizes.
@@ -39,8 +39,8 @@ fn from_reset<R: Read, W: Write>(
     let mut text = [0u8; 29696];
     let block = h.block;
     let columns = h.columns as usize;
-    reset::reset(d, histories, positions);
-    let number = stream(
+    reset::reset(d, histories, positions).unwrap();
+    let outcome = stream(
         reader,
         writer,
         block,
@@ -53,7 +53,10 @@ fn from_reset<R: Read, W: Write>(
         &mut scratch,
         &mut text,
     )?;
-    last(writer, number, columns)
+    match outcome {
+        Ok(()) => last(writer, Ok(columns)),
+        Err(refusal) => last(writer, Err(refusal)),
+    }
 }
 
 // Lends histories and positions of the description's sizes.
@@ -99,11 +102,10 @@ fn weighed<R: Read, W: Write>(
     requires opened { Opened d.now s h.block }
     requires weights_len { length weights.old ≡ s.weights }
 {
-    let number = take_weights(weights, bytes);
-    if number != 0 {
-        return last(writer, number, 0);
+    match take_weights(weights, bytes) {
+        Ok(()) => with_weights(reader, writer, h, s, d, weights),
+        Err(refusal) => last(writer, Err(refusal)),
     }
-    with_weights(reader, writer, h, s, d, weights)
 }
 
 // Reads the weights.
@@ -143,11 +145,10 @@ fn described<R: Read, W: Write>(
 ) -> io::Result<()>
     requires { LowHeader h }
 {
-    let checked = take_description(numbers, bytes, h.block);
-    let Checked::Sound(s) = checked else {
-        return last(writer, checked.number(), 0);
-    };
-    with_description(reader, writer, h, s, numbers)
+    match take_description(numbers, bytes, h.block) {
+        Ok(s) => with_description(reader, writer, h, s, numbers),
+        Err(refusal) => last(writer, Err(refusal)),
+    }
 }
 
 // Reads the description.
@@ -166,7 +167,7 @@ pub fn play<R: Read, W: Write>(reader: &mut R, writer: &mut W) -> io::Result<()>
     let mut bytes = [0u8; 15];
     let got = read_full(reader, &mut bytes)?;
     match read_header(&bytes[..got]) {
-        HeaderAnswer::Refused(number) => last(writer, number, 0),
-        HeaderAnswer::Whole(h) => with_header(reader, writer, h),
+        Ok(h) => with_header(reader, writer, h),
+        Err(refusal) => last(writer, Err(refusal)),
     }
 }

@@ -69,7 +69,8 @@ fn play_columns(
     calls::block(
         d, weights, histories, positions, input, condition, head_in, head_out, array_out, scratch,
         n,
-    );
+    )
+    .unwrap();
     put_lines(text, first, head_out, a.head_size, array_out, a.channels, n)
 }
 

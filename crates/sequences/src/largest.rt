@@ -2,6 +2,7 @@
 ghost use Rattle.std.specs.Prelude.{◌≡◌, ◌+◌, ◌*◌, ◌<◌, ◌≤◌, length};
 
 use crate::cases::{case_a, largest};
+use refusal::answer;
 
 // A block of n columns of case A's array.
 pub fn columns(n: usize) -> u32
@@ -17,7 +18,7 @@ pub fn columns(n: usize) -> u32
     let mut head_out = [0.0f32; 1025];
     let mut array_out = [0.0f32; 1025];
     let mut scratch = [0.0f32; 16400];
-    calls::block(
+    answer(calls::block(
         &d,
         &weights,
         &mut histories,
@@ -29,7 +30,7 @@ pub fn columns(n: usize) -> u32
         &mut array_out[..n],
         &mut scratch,
         n,
-    )
+    ))
 }
 
 // 64 columns of the largest layer.
@@ -41,7 +42,7 @@ fn block(histories: &mut [f32], positions: &mut [u32], head_out: &mut [f32]) -> 
     let head_in = [0.0f32; 2048];
     let mut array_out = [0.0f32; 2048];
     let mut scratch = [0.0f32; 32768];
-    calls::block(
+    answer(calls::block(
         &d,
         &weights,
         histories,
@@ -53,7 +54,7 @@ fn block(histories: &mut [f32], positions: &mut [u32], head_out: &mut [f32]) -> 
         &mut array_out,
         &mut scratch,
         64,
-    )
+    ))
 }
 
 // As many as hear the tap 2048 columns back.
@@ -62,10 +63,9 @@ const BLOCKS: usize = 33;
 // The blocks from a reset: the answers together, and the last block's outputs.
 fn from_reset(histories: &mut [f32], positions: &mut [u32], head_out: &mut [f32]) -> u32 {
     let d = largest();
-    let mut answers = reset::reset(&d, histories, positions);
+    let mut answers = answer(reset::reset(&d, histories, positions));
     for i in 0..BLOCKS {
-        let answer = block(histories, positions, head_out);
-        answers = answers | answer;
+        answers = answers | block(histories, positions, head_out);
     }
     answers
 }

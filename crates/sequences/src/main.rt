@@ -13,7 +13,8 @@ mod signal;
 
 use crate::pieces::run;
 use crate::signal::{row, same, same_places};
-use description::answers::{Checked, Sizes};
+use description::answers::Sizes;
+use refusal::answer;
 use std::io;
 use std::io::Write;
 
@@ -56,8 +57,8 @@ fn print_case_a<W: Write>(writer: &mut W) -> io::Result<()> {
     let mut head_out = [0.0f32; 4];
     let mut array_out = [0.0f32; 4];
     let mut scratch = [0.0f32; 64];
-    let reset = reset::reset(&d, &mut histories, &mut positions);
-    let answer = calls::block(
+    let silent = answer(reset::reset(&d, &mut histories, &mut positions));
+    let played = answer(calls::block(
         &d,
         &weights,
         &mut histories,
@@ -69,8 +70,8 @@ fn print_case_a<W: Write>(writer: &mut W) -> io::Result<()> {
         &mut array_out,
         &mut scratch,
         4,
-    );
-    print(writer, b"case A: ", wide(reset | answer))?;
+    ));
+    print(writer, b"case A: ", wide(silent | played))?;
     print_all(writer, &head_out)?;
     print_all(writer, &array_out)?;
     print(writer, b"\nits histories: ", wide(positions[1]))?;
@@ -89,8 +90,8 @@ fn print_sizes<W: Write>(writer: &mut W, s: Sizes) -> io::Result<()> {
 fn print_answer<W: Write>(writer: &mut W, text: &[u8], d: &[u32]) -> io::Result<()> {
     writer.write_all(text)?;
     match description::sizes(d) {
-        Checked::Refused(n) => print(writer, b"refused ", n as usize)?,
-        Checked::Sound(s) => print_sizes(writer, s)?,
+        Ok(s) => print_sizes(writer, s)?,
+        Err(refusal) => print(writer, b"refused ", u32::from(refusal) as usize)?,
     }
     end(writer)
 }

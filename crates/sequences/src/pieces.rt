@@ -4,6 +4,7 @@ ghost use Rattle.std.specs.Prelude.{◌≡◌, ◌+◌, ◌*◌, ◌<◌, ◌≤
 use crate::plans::PLAIN;
 use crate::played::any;
 use crate::signal::{COLUMNS, keep, two_rows};
+use refusal::answer;
 
 // The n columns from `column` on.
 fn bring(input: &mut [f32], condition: &mut [f32], head_in: &mut [f32], column: usize, n: usize)
@@ -44,11 +45,11 @@ fn in_blocks(
     requires head_out_len { (length head_out.old ≡ 2 * n) × (length array_out.old ≡ 2 * n) }
 {
     bring(input, condition, head_in, column, n);
-    let answer = any(
+    let played = any(
         d, weights, histories, positions, input, condition, head_in, head_out, array_out, n, kind,
     );
     take(out, head_out, array_out, column, n);
-    answer
+    played
 }
 
 // The same with room for the blocks.
@@ -115,14 +116,14 @@ pub fn run(
 ) -> bool
     requires { (length out.old ≡ 256) × (0 < length cut.now) }
 {
-    let mut answers = reset::reset(d, histories, positions);
+    let mut answers = answer(reset::reset(d, histories, positions));
     let mut column: usize = 0;
     let mut i: usize = 0;
     while column < COLUMNS {
         let n = next(cut, i, COLUMNS - column);
         let kind = if with_plans { (i + 1) % 4 } else { PLAIN };
-        let answer = piece(d, weights, histories, positions, out, column, n, kind);
-        answers = answers | answer;
+        let played = piece(d, weights, histories, positions, out, column, n, kind);
+        answers = answers | played;
         column += n;
         i += 1;
     }

@@ -2,6 +2,7 @@
 ghost use Rattle.std.specs.Prelude.{◌<◌, ◌≤◌};
 
 use crate::plans::{PLAIN, turn_count, write_plan};
+use refusal::answer;
 
 // What is answered where a call that has to be refused was not, or with another number.
 const WRONG: u32 = 99;
@@ -21,7 +22,7 @@ fn planned(
     n: usize,
 ) -> u32 {
     let mut scratch = [0.0f32; 4096];
-    let refused = calls::planned(
+    let refused = answer(calls::planned(
         d,
         weights,
         histories,
@@ -34,11 +35,11 @@ fn planned(
         &mut scratch,
         n,
         d,
-    );
+    ));
     if refused != 9 {
         return WRONG;
     }
-    calls::planned(
+    answer(calls::planned(
         d,
         weights,
         histories,
@@ -51,7 +52,7 @@ fn planned(
         &mut scratch,
         n,
         plan,
-    )
+    ))
 }
 
 // The same with the plan written first.
@@ -105,7 +106,7 @@ fn plain(
     requires { n ≤ 64 }
 {
     let mut scratch = [0.0f32; 4096];
-    let refused = calls::block(
+    let refused = answer(calls::block(
         d,
         weights,
         histories,
@@ -117,12 +118,12 @@ fn plain(
         array_out,
         &mut scratch,
         n + 1,
-    );
+    ));
     if refused != 7 {
         return WRONG;
     }
     if n == 1 {
-        return calls::column(
+        return answer(calls::column(
             d,
             weights,
             histories,
@@ -133,9 +134,9 @@ fn plain(
             head_out,
             array_out,
             &mut scratch,
-        );
+        ));
     }
-    calls::block(
+    answer(calls::block(
         d,
         weights,
         histories,
@@ -147,7 +148,7 @@ fn plain(
         array_out,
         &mut scratch,
         n,
-    )
+    ))
 }
 
 // By a kind of plan, or plainly.

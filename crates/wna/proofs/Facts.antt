@@ -11,7 +11,7 @@ use lib.Ieee.{Float}
 use lib.ListN.{length}
 use borrow.Author.Tests.{eq-eqb, eqb-false, eqb-true, ltb-false}
 use Rattle.lists.proofs.Nums.{le_or_lt}
-use Rattle.wna.specs.Header.{HeaderAnswers, LowHeader, bad_header, block_of, columns_of, count_of, header_length, header_number, header_refusal, header_values, most_numbers, other_magic, version_of}
+use Rattle.wna.specs.Header.{HeaderAnswers, LowHeader, bad_header, block_of, columns_of, count_of, header_length, header_refusal, header_values, most_numbers, other_magic, version_of}
 use Rattle.description.specs.Answers.{Answers, listed, values_of}
 use Rattle.refusal.specs.Number.{number_of}
 use Rattle.description.specs.Refusals.{refusal_of}
@@ -22,7 +22,9 @@ use Rattle.description.proofs.Facts.{sound_only}
 use Rattle.wna.specs.Opening.{Described, Opened, Weighed, description_refusal, no_room, short_for}
 use Rattle.wna.specs.Words.{words_of}
 use Rattle.wna.specs.declared.header.Header.{Header}
-use Rattle.wna.specs.HeaderAnswer.{HeaderAnswer}
+use Rattle.wna.specs.Header.{HeaderAnswer}
+use Rattle.refusal.specs.declared.Refusal.{Refusal}
+use Rattle.refusal.proofs.Named.{same_number}
 
 same_header : (h k : Header) → header_values (Ok h) ≡ header_values (Ok k) → h ≡ k
 unfolding header_values
@@ -33,13 +35,12 @@ same_header h k e =
     let q : ◌≡◌ {A = Header} (record { block = h.block; count = h.count; columns = h.columns }) (record { block = k.block; count = k.count; columns = k.columns }) = rw (b, n, c) in
     q
 
-nothing : {P : Type 0} (n : ℕ) (h : Header) → header_values (Err n) ≡ header_values (Ok h) → P
+nothing : {P : Type 0} (n : Refusal) (h : Header) → header_values (Err n) ≡ header_values (Ok h) → P
 unfolding header_values
 nothing n h e = absurd (let z : ◌≡◌ {A = ℕ} 0 1 = cc in omega arith)
 
-same_answer : (r s : HeaderAnswer) → header_number r ≡ header_number s → header_values r ≡ header_values s → r ≡ s
-unfolding header_number
-same_answer (Err n) (Err m) e v = ap Err e
+same_answer : (r s : HeaderAnswer) → number_of r ≡ number_of s → header_values r ≡ header_values s → r ≡ s
+same_answer (Err n) (Err m) e v = ap Err (same_number e)
 same_answer (Err n) (Ok h) e v = nothing n h v
 same_answer (Ok h) (Err n) e v = nothing n h (sym v)
 same_answer (Ok h) (Ok k) e v = ap Ok (same_header h k v)
@@ -78,7 +79,7 @@ block_some f e = above (block_of f) (eqb-false (block_of f) 0 (block_in f e).0)
 
 -- what a whole header tells of its numbers
 pub header_low : (f : List ℕ) {h : Header} → HeaderAnswers f (Ok h) → LowHeader h
-unfolding header_number header_values
+unfolding header_values
 header_low f {h} a =
     let p = passed f a.number in
     let b = block_in f p.0 in

@@ -9,7 +9,8 @@ use lib.Ieee.{Float}
 use lib.ListN.{length}
 use borrow.Author.Tests.{eq-eqb, le-ltb, lt-ltb}
 use Rattle.description.specs.Answers.{Answers, values_of}
-use Rattle.refusal.specs.Number.{number_of}
+use Rattle.refusal.specs.declared.Refusal.{Refusal}
+use Rattle.refusal.specs.declared.Refusal.TheVariants.{File, Room}
 use Rattle.description.specs.Refusals.{refusal_of}
 use Rattle.description.specs.Sizes.{sizes_of}
 use Rattle.description.specs.Checked.{Checked}
@@ -31,7 +32,7 @@ unfolding short_for
 long n f h = le-ltb (length f) (4 * n) h
 
 module _ (numbers f : List ℕ) (block : ℕ) where
-  pub cut : length f < 4 * length numbers → Described numbers f block (Err 10) numbers
+  pub cut : length f < 4 * length numbers → Described numbers f block (Err File) numbers
   unfolding description_refusal values_of
   cut h =
       let s = short (length numbers) f h in
@@ -48,13 +49,13 @@ module _ (numbers f : List ℕ) (block : ℕ) where
     unfolding d
     is = subst (λ (l : List ℕ). Answers l checked) e answer
 
-    pub wrong : {n : ℕ} → checked ≡ Err n → Described numbers f block checked numbers'
+    pub wrong : {refusal : Refusal} → checked ≡ Err refusal → Described numbers f block (Err refusal) numbers'
     unfolding description_refusal d values_of
-    wrong {n} q =
+    wrong q =
         let a = refused_only d (subst (Answers d) q is) in
         record {
-          number = rw (ok, a.1, q) a.0;
-          values = rw (q, a.0, a.1);
+          number = rw (ok, a.1) a.0;
+          values = rw (a.0, a.1);
           unpacked = rw ok e;
         }
 
@@ -66,7 +67,7 @@ module _ (numbers f : List ℕ) (block : ℕ) where
       unfolding sizes_of
       low = rw (ap (λ (s : Sizes). s.widest) sizes_is.1) (widest_most d sizes_is.0)
 
-      pub crowded : no_room s block ≡ true → Described numbers f block (Err 11) numbers'
+      pub crowded : no_room s block ≡ true → Described numbers f block (Err Room) numbers'
       unfolding description_refusal d values_of
       crowded r =
           record {
