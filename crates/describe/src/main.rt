@@ -6,7 +6,6 @@
 ghost use Rattle.std.specs.Prelude.{◌≡◌, ◌+◌, ◌*◌, ◌<◌, ◌≤◌, length};
 
 use description::answers::Sizes;
-use refusal::answer;
 use reading::read_full;
 use std::io;
 use std::io::{Read, Write};
@@ -77,7 +76,7 @@ fn print_reset<W: Write>(
     histories: &mut [f32],
     positions: &mut [u32],
 ) -> io::Result<()> {
-    let r = answer(reset::reset(d, histories, positions));
+    let r = refusal::answer(reset::reset(d, histories, positions));
     print(writer, b"; reset ", r as usize)?;
     print(writer, b", sounding ", sounding(histories))?;
     print(writer, b", positions ", positions.len())?;

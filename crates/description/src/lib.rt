@@ -13,10 +13,10 @@ pub mod records;
 pub mod tally;
 pub mod zeros;
 
+ghost use Rattle.description.specs.Answers.{Answers};
+
 use crate::answers::Sizes;
 use refusal::Refusal;
-
-ghost use Rattle.description.specs.Answers.{Answers};
 
 // The counts of weights, histories and positions, W and the memory depth; or the refusal, 1 to 5.
 pub fn sizes(description: &[u32]) -> Result<Sizes, Refusal>

@@ -61,7 +61,11 @@ fn rewind(description: &[u32], a: ArrayRecord, positions: &mut [u32])
     }
 }
 
-pub fn reset(description: &[u32], histories: &mut [f32], positions: &mut [u32]) -> Result<(), Refusal>
+pub fn reset(
+    description: &[u32],
+    histories: &mut [f32],
+    positions: &mut [u32],
+) -> Result<(), Refusal>
     ensures { Resets description.now histories.old positions.old (number_of result) histories.new positions.new }
 {
     let sizes = check(description)?;
