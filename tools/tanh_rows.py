@@ -38,7 +38,7 @@ def main():
     here = os.path.join(os.path.dirname(os.path.abspath(__file__)), "..", "crates", "tangent")
     with open(os.path.join(here, "src", "rows.rt"), "w") as f:
         f.write("// The rows of Tanh, six numbers each. specs/Rows.antt has the same numbers; tools/tanh_rows.py made both.\n")
-        f.write("pub const ROWS: [i32; %d] = [\n" % (len(rows) * len(rows[0])))
+        f.write("pub static ROWS: [i32; %d] = [\n" % (len(rows) * len(rows[0])))
         f.write("".join("    %d,\n" % c for r in rows for c in r) + "];\n")
     with open(os.path.join(here, "specs", "Rows.antt"), "w") as f:
         f.write("-- The rows of Tanh, six whole numbers each, one row for each stretch of 2^21 patterns from 2^-13 to 10. tools/tanh_rows.py made them.\n")

@@ -1,5 +1,5 @@
 -- What an activation makes of a number. Document 01, 'The recurrence' (its last paragraph).
-use Rattle.std.specs.Prelude.{cond, Float}
+use Rattle.std.specs.Prelude.{◌≡◌, cond, Float}
 use Rattle.std.specs.Float.{binary32}
 use Rattle.std.specs.Float.Ieee.{of_bits, add, div, lt, mul, neg}
 use Rattle.exponent.specs.Exp.{E}
@@ -32,3 +32,7 @@ activated Tanh x = tangent.Tanh x
 activated Relu x = relu x
 activated Sigmoid x = sigmoid x
 activated (LeakyRelu slope) x = leaky slope x
+
+-- post, the results of a closure, are those of g
+abbrev pub Computes : (Float → Float → Type 0) → (Float → Float) → Type 0
+Computes post g = (x y : Float) → post x y → y ≡ g x

@@ -2,12 +2,9 @@
 // value".
 #![tactic(auto)]
 
-ghost use Rattle.std.specs.Prelude.{◌≡◌, ◌+◌, ◌≤◌, length};
+ghost use Rattle.std.specs.Prelude.{◌≡◌, ◌+◌, ◌≤◌, length, Float};
 ghost use Rattle.lists.specs.Tab.{at, fill};
-ghost use Rattle.exponent.specs.Table.{table};
-ghost use Rattle.activation.specs.Activated.{relu, leaky, sigmoid, activated};
-
-mod over;
+ghost use Rattle.activation.specs.Activated.{relu, leaky, sigmoid, activated, Computes};
 
 // An activation with its slope.
 #[derive(Clone, Copy)]
@@ -38,19 +35,22 @@ fn leaky_of(slope: f32, x: f32) -> f32
     slope * x
 }
 
-// With exp's table lent: a loop makes it once.
-fn sigmoid_by(t: &[u32; 256], x: f32) -> f32
-    requires { t.now ≡ table }
-    ensures { result ≡ sigmoid x }
-{
-    1.0 / (1.0 + exponent::exp_by(t, -x))
-}
-
+// 1 / (1 + e^-x).
 fn sigmoid_of(x: f32) -> f32
     ensures { result ≡ sigmoid x }
 {
-    let t = exponent::entries();
-    sigmoid_by(&t, x)
+    1.0 / (1.0 + exponent::exp(-x))
+}
+
+// f over n numbers of a buffer from `from` on, to `to` on. A number is read before its place is written, also where the two stretches are one.
+fn over<F: Fn(f32) -> f32>(work: &mut [f32], to: usize, from: usize, n: usize, f: F)
+    requires callable { F.IsAlwaysCallable f }
+    requires inside { (to ≤ from) × (from + n ≤ length work.old) }
+    ensures { (g : Float → Float) → Computes (F.post f) g → work.new ≡ fill to n (λ i. g (at work.old (from + i))) work.old }
+{
+    for i in 0..n {
+        work[to + i] = f(work[from + i]);
+    }
 }
 
 impl Activation {
@@ -65,16 +65,16 @@ impl Activation {
         }
     }
 
-    // n numbers of a buffer from `from` on, to `to` on.
+    // n numbers of a buffer from `from` on, to `to` on. The case is picked once and not per number, so that each loop is plain.
     pub fn apply_over(self, work: &mut [f32], to: usize, from: usize, n: usize)
         requires { (to ≤ from) × (from + n ≤ length work.old) }
         ensures { work.new ≡ fill to n (λ i. activated self (at work.old (from + i))) work.old }
     {
         match self {
-            Activation::Tanh => over::tanh_over(work, to, from, n),
-            Activation::Relu => over::relu_over(work, to, from, n),
-            Activation::Sigmoid => over::sigmoid_over(work, to, from, n),
-            Activation::LeakyRelu(slope) => over::leaky_over(work, to, from, n, slope),
+            Activation::Tanh => over(work, to, from, n, tangent::tanh),
+            Activation::Relu => over(work, to, from, n, relu_of),
+            Activation::Sigmoid => over(work, to, from, n, sigmoid_of),
+            Activation::LeakyRelu(slope) => over(work, to, from, n, |x| leaky_of(slope, x)),
         }
     }
 }

@@ -1,7 +1,7 @@
 -- How large each number of the definition can be. Assumes nothing.
 use mathlib.Core.Path.{◌≡◌, refl, sym, ◌∙◌, ap}
-use mathlib.Core.Logic.{⊎_elim}
-use Prim.Native.Nat.{ℕ, ◌+◌, ◌-◌, ◌*◌, ◌/◌, ◌%◌, ◌^◌, ◌≤◌, ◌<◌}
+use mathlib.Core.Logic.{inl, inr, ⊎_elim}
+use Prim.Native.Nat.{ℕ, min, ◌+◌, ◌-◌, ◌*◌, ◌/◌, ◌%◌, ◌^◌, ◌≤◌, ◌<◌}
 use native.Mathlib.Nat.{mul-le-mul, div-eq_of_lt, lt_of_lt_of_le}
 use native.Mathlib.Omega.{arith}
 use lib.Pow.{pow_mono, shr-shr, shr_le}
@@ -26,9 +26,13 @@ shift_le n j k h =
     let s : n / 2 ^ j / 2 ^ (k - j) ≡ n / 2 ^ k = shr-shr n j (k - j) ∙ ap (λ (i : ℕ). n / 2 ^ i) (sym e) in
     omega (arith, s, shr_le (n / 2 ^ j) (k - j))
 
--- and a shift by 63 or more nothing of a number below 2^63
-pub shift_far : (n k : ℕ) → n < 2 ^ 63 → 63 ≤ k → n / 2 ^ 63 ≡ n / 2 ^ k
-shift_far n k h l = div-eq_of_lt h ∙ sym (div-eq_of_lt (lt_of_lt_of_le h (pow_mono {i = 63} {j = k} l)))
+-- and a shift by 63 leaves nothing of a number below 2^63, as any longer one
+pub shift_up_to : (n k : ℕ) → n < 2 ^ 63 → n / 2 ^ min k 63 ≡ n / 2 ^ k
+shift_up_to n k h = elim (le_or_lt k 63) [
+  | inl l ↦ (let e : min k 63 ≡ k = omega (arith, l) in ap (λ (i : ℕ). n / 2 ^ i) e)
+  | inr l ↦ (let e : min k 63 ≡ 63 = omega (arith, l) in ap (λ (i : ℕ). n / 2 ^ i) e ∙ div-eq_of_lt h
+      ∙ sym (div-eq_of_lt (lt_of_lt_of_le h (pow_mono {i = 63} {j = k} (omega (arith, l))))))
+]
 
 -- ---- |x| log2 e
 -- below 2^6 = 64, where the exponent's field is 132 or less

@@ -6,11 +6,12 @@ use mathlib.Core.Bool.{Bool, true, false, cond}
 use Prim.Native.Nat.{ℕ, zero, suc, ◌+◌, ◌-◌, ◌*◌, ◌/◌, ◌%◌, ◌^◌, ◌≤◌, ◌<◌}
 use native.Mathlib.Nat.{div-add-mod', mod-lt, mod-eq_of_lt, suc-mul, one-mul}
 use native.Mathlib.Omega.{arith}
-use borrow.Author.Tests.{le-ltb, lt-ltb, ltb-true}
+use borrow.Author.Tests.{le-ltb, lt-ltb}
 use lib.Dec.{T, ltb}
 use lib.Pow.{pow_pos, pow_mono}
 use lib.IntN.{ℤ, pos, negsuc, neg_ℤ, nat_abs, sub_ℕ, ◌+ℤ◌, ◌-ℤ◌, ◌*ℤ◌, +ℤ_comm, -ℤ-+ℤ_cancel}
-use lib.Signed.{mag, lt_z, non_neg, shr_z, mag_shr}
+use lib.Signed.{mag, non_neg, shr_z, mag_shr}
+use Rattle.std.specs.Int.{int_max}
 use mir.Syntax.{w64}
 use mir.Val.{SFits, to_z, of_z}
 use mir.Facts.{to_z-of_z, sfits_lit}
@@ -128,23 +129,17 @@ pub parts_split : (z : ℤ) (n : ℕ) → 0 < n → Splits z n (parts z n)
 parts_split z n h = record { whole = whole_is z n h; below = remainder_lt z n h; is = refl }
 
 -- ---- the code of `positive_of`
-pub negative_none : (z : ℤ) → lt_z z (pos 0) ≡ true → 0 ≡ positive z
-unfolding positive
-negative_none (pos n) h = absurd (let l = ltb-true n 0 h in omega arith)
-negative_none (negsuc n) h = refl
-
-pub not_negative : (z : ℤ) → lt_z z (pos 0) ≡ false → T (non_neg z)
-not_negative (pos n) h = tt
-not_negative (negsuc n) h = absurd (let e : 0 ≡ 1 = ap number (sym h) in omega arith)
-  where
-    number : Bool → ℕ
-    number true = 1
-    number false = 0
-
 pub positive_is : (z : ℤ) → T (non_neg z) → nat_abs z ≡ positive z
 unfolding positive
 positive_is (pos n) h = refl
 positive_is (negsuc n) h = absurd h
+
+-- the larger of a number and 0
+pub max_is : (z : ℤ) → int_max z (pos 0) ≡ pos (positive z)
+unfolding positive
+max_is (pos zero) = refl
+max_is (pos (suc n)) = rw (lt-ltb 0 (suc n) (omega arith)) refl
+max_is (negsuc n) = refl
 
 -- ---- the code of `scaled_of`: the factor 1 - 2 s is 1 or -1
 abbrev pub factor : ℕ → ℤ

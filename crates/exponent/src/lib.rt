@@ -1,22 +1,22 @@
 // exp, as nam-rs's activation.rs takes it from Rust's f32: here a table of 256 whole numbers and whole-number steps, equal bit for bit to the
 // definition E. Document 01, 'Tanh and exp'.
 //
-// The ordinary values, |x| below 87, take one path without a branch: one comparison tells them, and all others are left to seldom. An array that is a
-// constant is made anew wherever it is read, so the table is lent: whoever loops keeps one and calls exp_by.
+// The ordinary values, |x| below 87, take one path without a branch: one comparison tells them, and all others are left to seldom. The table is a
+// static, read in place.
 #![tactic(auto)]
 
 ghost use Rattle.std.specs.Prelude.{◌≡◌, ◌+◌, ◌*◌, ◌%◌, ◌^◌, ◌<◌};
 ghost use Rattle.std.specs.Int.Signed.{mag};
 ghost use Rattle.std.specs.Float.{binary32};
 ghost use Rattle.std.specs.Float.Ieee.{of_bits};
-ghost use Rattle.exponent.specs.Table.{table, entry};
+ghost use Rattle.exponent.specs.Table.{entry};
 ghost use Rattle.exponent.specs.Exp.{nearest, positive, magnitude, scaled, power, raised, between, exp_bits, E};
 ghost use Rattle.exponent.specs.Split.{Splits};
 
 use single::{not_a_number, to_bits};
 
 // T: entry j is the whole number nearest to 2^(30 + j/256).
-const TABLE: [u32; 256] = [
+static TABLE: [u32; 256] = [
     1073741824, 1076653033, 1079572136, 1082499153, 1085434106, 1088377016, 1091327906, 1094286796,
     1097253708, 1100228665, 1103211687, 1106202798, 1109202018, 1112209370, 1115224875, 1118248556,
     1121280436, 1124320536, 1127368878, 1130425485, 1133490379, 1136563583, 1139645120, 1142735011,
@@ -79,29 +79,22 @@ fn split(whole: i64, bits: u32) -> Parts
     }
 }
 
-// The table, to keep and lend.
-pub fn entries() -> [u32; 256]
-    ensures { result ≡ table }
-{
-    TABLE
-}
-
 // Entry j of the table.
-fn entry_of(t: &[u32; 256], j: u64) -> u64
-    requires { (t.now ≡ table) × (j < 256) }
+fn entry_of(j: u64) -> u64
+    requires { j < 256 }
     ensures { result ≡ entry j }
 {
-    t[j as usize] as u64
+    TABLE[j as usize] as u64
 }
 
 // 2^(j/256 + f/2^32) in 1 / 2^62.
-pub fn power_of(t: &[u32; 256], j: u64, f: u64) -> u64
-    requires { (t.now ≡ table) × (j < 256) × (f < 2 ^ 24) }
+pub fn power_of(j: u64, f: u64) -> u64
+    requires { (j < 256) × (f < 2 ^ 24) }
     ensures { result ≡ power j f }
 {
     let c = 1488522236 + f * 2016986 / 16777216;
     let w = f * c / 2147483648;
-    entry_of(t, j) * (4294967296 + w)
+    entry_of(j) * (4294967296 + w)
 }
 
 // |x| log2 e in 1 / 2^32. A shift by 63 leaves 0, as any longer one would.
@@ -112,9 +105,7 @@ fn magnitude_of(bits: u32) -> u64
     let a = (bits % 0x8000_0000) as u64;
     let m = 8388608 + a % 8388608;
     let e = a / 8388608;
-    let long = 155 - e;
-    let shift = if long < 63 { long } else { 63 };
-    (m * 198282496599) >> shift
+    (m * 198282496599) >> (155 - e).min(63)
 }
 
 // x log2 e in 1 / 2^32: the sign is a factor, not a branch.
@@ -127,8 +118,8 @@ fn scaled_of(bits: u32) -> i64
 }
 
 // e^x, before it is rounded to a float.
-fn raised_of(t: &[u32; 256], bits: u32) -> Power
-    requires { (t.now ≡ table) × (bits % 2 ^ 31 < 0x42d0_0000) }
+fn raised_of(bits: u32) -> Power
+    requires { bits % 2 ^ 31 < 0x42d0_0000 }
     ensures { result ≡ raised bits }
 {
     // by 2^24: the whole part of x 256 log2 e, and its fraction
@@ -137,7 +128,7 @@ fn raised_of(t: &[u32; 256], bits: u32) -> Power
     let j = split(k.quotient, 8);
     Power {
         exponent: j.quotient,
-        size: power_of(t, j.remainder, k.remainder),
+        size: power_of(j.remainder, k.remainder),
     }
 }
 
@@ -150,11 +141,11 @@ fn pattern_of(up: u64, down: u64, size: u64) -> u64
 }
 
 // |x| below 87: the result is no subnormal and no infinity.
-fn ordinary(t: &[u32; 256], bits: u32) -> f32
-    requires { (t.now ≡ table) × (bits % 2 ^ 31 < 0x42ae_0000) }
+fn ordinary(bits: u32) -> f32
+    requires { bits % 2 ^ 31 < 0x42ae_0000 }
     ensures { result ≡ of_bits binary32 (exp_bits bits) }
 {
-    let p = raised_of(t, bits);
+    let p = raised_of(bits);
     let q = p.exponent + 126;
     f32::from_bits(pattern_of(q as u64, 0, p.size) as u32)
 }
@@ -163,29 +154,22 @@ fn ordinary(t: &[u32; 256], bits: u32) -> f32
 fn positive_of(z: i64) -> u64
     ensures { result ≡ positive z }
 {
-    if z < 0 {
-        return 0;
-    }
-    z as u64
+    z.max(0) as u64
 }
 
 // The values between the guards, where the result may be a subnormal or overflow.
-fn edge(t: &[u32; 256], bits: u32) -> f32
-    requires { (t.now ≡ table) × (bits % 2 ^ 31 < 0x42d0_0000) }
+fn edge(bits: u32) -> f32
+    requires { bits % 2 ^ 31 < 0x42d0_0000 }
     ensures { result ≡ of_bits binary32 (between bits) }
 {
-    let p = raised_of(t, bits);
+    let p = raised_of(bits);
     let q = p.exponent + 126;
     let r = pattern_of(positive_of(q), positive_of(0 - q), p.size);
-    if 0x7f80_0000 < r {
-        return f32::from_bits(0x7f80_0000);
-    }
-    f32::from_bits(r as u32)
+    f32::from_bits(r.min(0x7f80_0000) as u32)
 }
 
 // All other values: NaN, the guards, and the edges.
-fn seldom(t: &[u32; 256], bits: u32) -> f32
-    requires { t.now ≡ table }
+fn seldom(bits: u32) -> f32
     ensures { result ≡ of_bits binary32 (exp_bits bits) }
 {
     let a = bits % 0x8000_0000;
@@ -201,25 +185,16 @@ fn seldom(t: &[u32; 256], bits: u32) -> f32
             return f32::from_bits(0);
         }
     }
-    edge(t, bits)
+    edge(bits)
 }
 
-// E of x, with the table lent.
-pub fn exp_by(t: &[u32; 256], x: f32) -> f32
-    requires { t.now ≡ table }
+// E of x.
+pub fn exp(x: f32) -> f32
     ensures { result ≡ E x }
 {
     let bits = to_bits(x);
     if bits % 0x8000_0000 < 0x42ae_0000 {
-        return ordinary(t, bits);
+        return ordinary(bits);
     }
-    seldom(t, bits)
-}
-
-// E of x, where one value is wanted: it makes the table for it.
-pub fn exp(x: f32) -> f32
-    ensures { result ≡ E x }
-{
-    let t = entries();
-    exp_by(&t, x)
+    seldom(bits)
 }

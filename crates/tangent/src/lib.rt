@@ -1,34 +1,26 @@
 // Tanh, as nam-rs's activation.rs takes it from Rust's f32: here a table of 65 rows and whole-number steps, equal bit for bit to the definition Tanh.
 // Document 01, 'Tanh and exp'.
 //
-// The ordinary values, |x| between 2^-13 and 10, take one path without a branch; all others are left to seldom. An array that is a constant is made
-// anew wherever it is read, so the rows are lent: whoever loops keeps them and calls tanh_by.
+// The ordinary values, |x| between 2^-13 and 10, take one path without a branch; all others are left to seldom. The rows are
+// a static, read in place.
 #![tactic(auto)]
 
-ghost use Rattle.std.specs.Prelude.{◌≡◌, ◌+◌, ◌%◌, ◌^◌, ◌≤◌, ◌<◌, min};
+ghost use Rattle.std.specs.Prelude.{◌≡◌, ◌+◌, ◌%◌, ◌^◌, ◌≤◌, ◌<◌};
 ghost use Rattle.std.specs.Int.Signed.{mag};
 ghost use Rattle.std.specs.Float.{binary32};
 ghost use Rattle.std.specs.Float.Ieee.{of_bits};
-ghost use Rattle.tangent.specs.Rows.{rows};
 ghost use Rattle.tangent.specs.Tanh.{low, high, number, step, value_at, between, tanh_bits, Tanh};
 
 use single::{not_a_number, to_bits};
 
 mod rows;
 
-// The rows, to keep and lend.
-pub fn rows_of() -> [i32; 390]
-    ensures { result ≡ rows }
-{
-    rows::ROWS
-}
-
 // Number k of row i.
-fn number_of(t: &[i32; 390], i: usize, k: usize) -> i64
-    requires { (t.now ≡ rows) × (i < 65) × (k < 6) }
+fn number_of(i: usize, k: usize) -> i64
+    requires { (i < 65) × (k < 6) }
     ensures { (result ≡ number i k) × (mag result < 2 ^ 31) }
 {
-    t[6 * i + k] as i64
+    rows::ROWS[6 * i + k] as i64
 }
 
 // A number c of a row, and d / 2^bits of what the numbers behind it come to.
@@ -40,33 +32,26 @@ fn step_of(d: u64, bits: u32, c: i64, v: i64) -> i64
 }
 
 // The quintic of row i at d. It is never negative.
-fn value_of(t: &[i32; 390], i: usize, d: u64) -> u64
-    requires { (t.now ≡ rows) × (i < 65) × (d < 2 ^ 21) }
+fn value_of(i: usize, d: u64) -> u64
+    requires { (i < 65) × (d < 2 ^ 21) }
     ensures { result ≡ value_at i d }
 {
-    let v4 = step_of(d, 21, number_of(t, i, 4), number_of(t, i, 5));
-    let v3 = step_of(d, 21, number_of(t, i, 3), v4);
-    let v2 = step_of(d, 21, number_of(t, i, 2), v3);
-    let v1 = step_of(d, 21, number_of(t, i, 1), v2);
-    step_of(d, 24, number_of(t, i, 0), v1) as u64
-}
-
-// The lesser of two.
-fn lesser(a: u64, b: u64) -> u64
-    ensures { result ≡ min a b }
-{
-    if a < b { a } else { b }
+    let v4 = step_of(d, 21, number_of(i, 4), number_of(i, 5));
+    let v3 = step_of(d, 21, number_of(i, 3), v4);
+    let v2 = step_of(d, 21, number_of(i, 2), v3);
+    let v1 = step_of(d, 21, number_of(i, 1), v2);
+    step_of(d, 24, number_of(i, 0), v1) as u64
 }
 
 // |x| between 2^-13 and 10, by its pattern. 3f7fffff is the last pattern below 1.
-fn between_of(t: &[i32; 390], a: u32) -> u32
-    requires { (t.now ≡ rows) × (low < a) × (a < high) }
+fn between_of(a: u32) -> u32
+    requires { (low < a) × (a < high) }
     ensures { result ≡ between a }
 {
     let i = (a - 0x3900_0000) / 0x20_0000;
-    let y = value_of(t, i as usize, (a % 0x20_0000) as u64);
-    let field = lesser(a as u64, 0x3f7f_ffff) / 0x80_0000 - 2;
-    let digits = lesser(y, (y + 0x4000_0020) / 2) / 64;
+    let y = value_of(i as usize, (a % 0x20_0000) as u64);
+    let field = (a as u64).min(0x3f7f_ffff) / 0x80_0000 - 2;
+    let digits = y.min((y + 0x4000_0020) / 2) / 64;
     (field * 0x80_0000 + digits) as u32
 }
 
@@ -82,9 +67,8 @@ fn seldom(b: u32) -> f32
     f32::from_bits(b - a + 0x3f80_0000)
 }
 
-// Tanh of x, with the rows lent.
-pub fn tanh_by(t: &[i32; 390], x: f32) -> f32
-    requires { t.now ≡ rows }
+// Tanh of x.
+pub fn tanh(x: f32) -> f32
     ensures { result ≡ Tanh x }
 {
     let b = to_bits(x);
@@ -95,13 +79,5 @@ pub fn tanh_by(t: &[i32; 390], x: f32) -> f32
     if 0x4120_0000 <= a {
         return seldom(b);
     }
-    f32::from_bits(b - a + between_of(t, a))
-}
-
-// Tanh of x, where one value is wanted: it makes the rows for it.
-pub fn tanh(x: f32) -> f32
-    ensures { result ≡ Tanh x }
-{
-    let t = rows_of();
-    tanh_by(&t, x)
+    f32::from_bits(b - a + between_of(a))
 }

@@ -1,7 +1,8 @@
--- `entry_of` reads the entry that the definition names, from a lent array that is the table; an entry has 31 digits, so it fits.
-use Rattle.exponent.specs.Table.{entry}
+-- `entry_of` reads the entry that the definition names: the code's table and the specs' are the same list; an entry has 31 digits, so it fits.
+use Rattle.exponent.specs.Table.{table, entry}
+use mathlib.Core.Path.{refl}
 use Rattle.exponent.proofs.entry_of.Goals as goal
 
 pub returns : goal.returns
-unfolding entry
-returns c = rw c.requires.0
+unfolding entry table
+returns c = refl

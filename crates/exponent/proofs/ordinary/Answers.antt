@@ -11,28 +11,28 @@ pub overflow_add-q : goal.overflow_add-q
 overflow_add-q c =
     let b = c.args.bits in
     let is = c.raised_of-p.ensures in
-    let h = c.requires.1 in
+    let h = c.requires in
     rw (e_back b is (omega arith)) (q_fits b is (omega arith))
 
 pub overflow_cast-q : goal.overflow_cast-q
 overflow_cast-q c =
     let b = c.args.bits in
     let is = c.raised_of-p.ensures in
-    let h = c.requires.1 in
+    let h = c.requires in
     rw (e_back b is (omega arith), q_back b is (omega arith)) (q_non_neg b is h, record { fits = omega (arith, q_lt b is h) })
 
 pub pattern_of-requires : goal.pattern_of-requires
 pattern_of-requires c =
     let b = c.args.bits in
     let is = c.raised_of-p.ensures in
-    let h = c.requires.1 in
+    let h = c.requires in
     rw (e_back b is (omega arith), q_back b is (omega arith)) (omega (arith, q_lt b is h), search rules)
 
 pub overflow_cast-result : goal.overflow_cast-result
 overflow_cast-result c =
     let b = c.args.bits in
     let is = c.raised_of-p.ensures in
-    let h = c.requires.1 in
+    let h = c.requires in
     let e = rw (e_back b is (omega arith), q_back b is (omega arith)) at c.pattern_of.ensures in
     record { fits = omega (arith, r_lt b is h) }
 
@@ -40,7 +40,7 @@ pub float_from_bits-result : goal.float_from_bits-result
 float_from_bits-result c =
     let b = c.args.bits in
     let is = c.raised_of-p.ensures in
-    let h = c.requires.1 in
+    let h = c.requires in
     let e = rw (e_back b is (omega arith), q_back b is (omega arith)) at c.pattern_of.ensures in
     no_nan_pattern _ (omega (arith, r_lt b is h))
 
@@ -48,5 +48,5 @@ pub returns : goal.returns
 returns c =
     let b = c.args.bits in
     let is = c.raised_of-p.ensures in
-    let h = c.requires.1 in
+    let h = c.requires in
     ap (of_bits binary32) (rw (e_back b is (omega arith), q_back b is (omega arith)) at c.pattern_of.ensures ∙ sym (exp_is b is h))

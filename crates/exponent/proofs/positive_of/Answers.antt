@@ -1,13 +1,19 @@
 -- `positive_of` is 0 for a negative number and the number itself otherwise.
-use mir.Facts.{to_z-of_z, Fits-nat_abs}
-use Rattle.exponent.proofs.Signed.{negative_none, not_negative, positive_is}
+use mathlib.Core.Path.{◌≡◌, refl, ◌∙◌}
+use native.Mathlib.Omega.{arith}
+use lib.IntN.{pos}
+use mir.Facts.{to_z-of_z}
+use Rattle.exponent.specs.Exp.{positive}
+use Rattle.exponent.proofs.Signed.{back, max_is}
 use Rattle.exponent.proofs.positive_of.Goals as goal
 
-pub returns-then-z-lt0 : goal.returns-then-z-lt0
-returns-then-z-lt0 c = negative_none c.args.z (rw (to_z-of_z c.ranges.z) at c.if-z-lt0.true)
-
 pub overflow_cast-result : goal.overflow_cast-result
-overflow_cast-result c = rw (to_z-of_z c.ranges.z) (not_negative c.args.z (rw (to_z-of_z c.ranges.z) at c.if-z-lt0.false), Fits-nat_abs tt c.ranges.z)
+overflow_cast-result c =
+    let e : c.max.result ≡ pos (positive c.args.z) = rw (to_z-of_z c.ranges.z) at c.max.ensures.value ∙ max_is c.args.z in
+    let small = rw e at c.max.type_inv in
+    rw (back c.max.result c.max.type_inv, e) (tt, record { fits = omega (arith, small) })
 
 pub returns : goal.returns
-returns c = rw (to_z-of_z c.ranges.z) (positive_is c.args.z (not_negative c.args.z (rw (to_z-of_z c.ranges.z) at c.if-z-lt0.false)))
+returns c =
+    let e : c.max.result ≡ pos (positive c.args.z) = rw (to_z-of_z c.ranges.z) at c.max.ensures.value ∙ max_is c.args.z in
+    rw (back c.max.result c.max.type_inv, e) refl

@@ -11,13 +11,13 @@ use Rattle.exponent.proofs.raised_of.Goals as goal
 pub split-k-requires : goal.split-k-requires
 split-k-requires c =
     let b = c.args.bits in
-    let h = c.requires.1 in
+    let h = c.requires in
     rw (scaled_back b h c.scaled_of.result c.scaled_of.ensures) (scaled_small b h, search rules)
 
 pub split-j-requires : goal.split-j-requires
 split-j-requires c =
     let b = c.args.bits in
-    let h = c.requires.1 in
+    let h = c.requires in
     let k = c.split-k.result in
     let e1 : k ≡ parts (scaled b) 16777216 =
     c.split-k.ensures.is ∙ ap (λ z. parts z 16777216) (scaled_back b h c.scaled_of.result c.scaled_of.ensures)
@@ -28,7 +28,7 @@ split-j-requires c =
 pub returns : goal.returns
 returns c =
     let b = c.args.bits in
-    let h = c.requires.1 in
+    let h = c.requires in
     let k = c.split-k.result in
     let e1 : k ≡ parts (scaled b) 16777216 =
     c.split-k.ensures.is ∙ ap (λ z. parts z 16777216) (scaled_back b h c.scaled_of.result c.scaled_of.ensures)

@@ -26,7 +26,7 @@ pub returns-then-a-ge1120927744 : goal.returns-then-a-ge1120927744
 returns-then-a-ge1120927744 c = ap (of_bits binary32) (sym (at_low c.args.bits c.if-a-gt2139095040.false c.if-bits-lt2147483648.false c.if-a-ge1120927744.true))
 
 pub edge-requires : goal.edge-requires
-edge-requires c = (c.requires, elim c.if-bits-lt2147483648.branch [ then-bits-lt2147483648+else-a-ge1118961664 w ↦ omega arith | else-bits-lt2147483648+else-a-ge1120927744 w ↦ omega arith ])
+edge-requires c = elim c.if-bits-lt2147483648.branch [ then-bits-lt2147483648+else-a-ge1118961664 w ↦ omega arith | else-bits-lt2147483648+else-a-ge1120927744 w ↦ omega arith ]
 
 pub returns : goal.returns
 returns c = c.edge.ensures ∙ ap (of_bits binary32) (sym (elim c.if-bits-lt2147483648.branch [ then-bits-lt2147483648+else-a-ge1118961664 w ↦ at-positive c.args.bits w.if-bits-lt2147483648.true (omega arith) | else-bits-lt2147483648+else-a-ge1120927744 w ↦ at_negative c.args.bits w.if-bits-lt2147483648.false w.if-a-ge1120927744.false ]))

@@ -1,11 +1,7 @@
--- `exp_by` is E: one comparison parts the two ways, and both are E of the pattern.
-use native.Mathlib.Omega.{arith}
+-- `exp` is E: one comparison parts the two ways, and both are E of the pattern.
 use Rattle.exponent.specs.Exp.{E}
 use mathlib.Core.Path.{◌∙◌}
-use Rattle.exponent.proofs.exp_by.Goals as goal
-
-pub ordinary-requires : goal.ordinary-requires
-ordinary-requires c = (c.requires, omega arith)
+use Rattle.exponent.proofs.exp.Goals as goal
 
 pub returns-then-bits-lt1118699520 : goal.returns-then-bits-lt1118699520
 unfolding E

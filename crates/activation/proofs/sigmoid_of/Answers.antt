@@ -1,6 +1,6 @@
 use Rattle.activation.specs.Activated.{sigmoid}
-use Rattle.activation.proofs.sigmoid_by.Goals as goal
+use Rattle.activation.proofs.sigmoid_of.Goals as goal
 
 pub returns : goal.returns
 unfolding sigmoid
-returns c = rw c.exp_by.ensures
+returns c = rw c.exp.ensures
