@@ -1,2 +1,3 @@
+pub mod Copied
 pub mod Joined
-pub mod Read
+pub mod Split

@@ -13,9 +13,7 @@ fn row(dst: &mut [f32], src: &[f32], to: usize, from: usize, m: usize)
     requires { (to + m ≤ length dst.old) × (from + m ≤ length src.now) }
     ensures { dst.new ≡ fill to m (λ t. at src.now (from + t)) dst.old }
 {
-    for t in 0..m {
-        dst[to + t] = src[from + t];
-    }
+    dst[to..to + m].copy_from_slice(&src[from..from + m]);
 }
 
 // One column of w rows, from one buffer to another: a loop of its own, as a loop within a loop costs more than the one number that it would carry.
@@ -73,48 +71,7 @@ pub fn columns(
     }
 }
 
-// to[t] = from[t], within one buffer.
-fn row_within(work: &mut [f32], to: usize, from: usize, m: usize)
-    requires { (to + m ≤ length work.old) × (from + m ≤ length work.old) × Apart to m from m }
-    ensures { work.new ≡ fill to m (λ t. at work.old (from + t)) work.old }
-{
-    for t in 0..m {
-        work[to + t] = work[from + t];
-    }
-}
-
-// One column of w rows, within one buffer: a loop of its own, as a loop within a loop costs more than the one number that it would carry.
-fn column_within(work: &mut [f32], to: usize, s: usize, from: usize, n: usize, w: usize)
-    requires { (to + 1 + w * s ≤ length work.old + s) × (from + 1 + w * n ≤ length work.old + n) × (1 ≤ s) × (1 ≤ n) × Apart to (w * s) from (w * n) }
-    ensures { work.new ≡ rows to s 1 w (λ c t. at work.old (from + c * n + t)) work.old }
-{
-    for c in 0..w {
-        work[to + c * s] = work[from + c * n];
-    }
-}
-
-// m columns of w rows, row by row: from rows that are n apart to rows that are s apart, within one buffer.
-fn row_by_row_within(
-    work: &mut [f32],
-    to: usize,
-    s: usize,
-    from: usize,
-    n: usize,
-    w: usize,
-    m: usize,
-)
-    requires { (to + m + w * s ≤ length work.old + s) × (from + m + w * n ≤ length work.old + n) × (m ≤ s) × (m ≤ n) × Apart to (w * s) from (w * n) }
-    ensures { work.new ≡ rows to s m w (λ c t. at work.old (from + c * n + t)) work.old }
-{
-    for c in 0..w {
-        let a = to + c * s;
-        let b = from + c * n;
-        row_within(work, a, b, m);
-    }
-}
-
-// m columns of w rows: from rows that are n apart to rows that are s apart, within one buffer.
-// The rows lie end to end where these are all columns of both places: then they are one row.
+// The same within one buffer, which is split where the later of the two places begins. Where nothing is to be carried, the places may lie anywhere.
 pub fn columns_within(
     work: &mut [f32],
     to: usize,
@@ -127,12 +84,15 @@ pub fn columns_within(
     requires { (to + m + w * s ≤ length work.old + s) × (from + m + w * n ≤ length work.old + n) × (m ≤ s) × (m ≤ n) × Apart to (w * s) from (w * n) }
     ensures { work.new ≡ rows to s m w (λ c t. at work.old (from + c * n + t)) work.old }
 {
-    if m == s && m == n {
-        row_within(work, to, from, w * m);
-    } else if m == 1 {
-        column_within(work, to, s, from, n, w);
+    if w == 0 || m == 0 {
+        return;
+    }
+    if to < from {
+        let (front, back) = work.split_at_mut(from);
+        columns(front, back, to, s, 0, n, w, m);
     } else {
-        row_by_row_within(work, to, s, from, n, w, m);
+        let (front, back) = work.split_at_mut(to);
+        columns(back, front, 0, s, from, n, w, m);
     }
 }
 

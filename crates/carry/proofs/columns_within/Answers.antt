@@ -1,22 +1,22 @@
-use Rattle.carry.proofs.Joined.{joined}
-use mathlib.Core.Path.{◌≡◌}
+use mathlib.Core.Logic.{inl, inr}
+use Rattle.carry.proofs.Split.{front_filled, back_filled}
+use Rattle.lists.proofs.Nums.{row_end}
+use Rattle.lists.proofs.Rows.{rows_none, rows_narrow}
 use native.Mathlib.Omega.{arith}
 use Rattle.carry.proofs.columns_within.Goals as goal
+use Rattle.carry.proofs.columns_within.Goals.{then-w-eq0-via-then-w-eq0, then-w-eq0-via-else-w-eq0+then-m-eq0}
 
-pub overflow_mul-w : goal.overflow_mul-w
-overflow_mul-w c =
-    let hs : c.args.m ≡ c.args.s = omega arith in let hn : c.args.m ≡ c.args.n = c.if-m-n.true in
-    let p = rw (← hs, ← hn) at c.requires in record { fits = omega (arith, p) }
+pub returns-then-w-eq0 : goal.returns-then-w-eq0
+returns-then-w-eq0 c = elim c.then-w-eq0.either [ inl e ↦ rw e (rows_none _ _ _ _ _) | inr e ↦ rw e.1 (rows_narrow _ _ _ _ _) ]
 
-pub row_within-requires : goal.row_within-requires
-row_within-requires c =
-    let hs : c.args.m ≡ c.args.s = omega arith in let hn : c.args.m ≡ c.args.n = c.if-m-n.true in
-    let p = rw (← hs, ← hn) at c.requires in (omega (arith, p), omega (arith, p), omega (arith, p))
+pub returns-then-to-from : goal.returns-then-to-from
+returns-then-to-from c =
+    let split = c.split_at_mut-front.ensures in
+    front_filled c.args.to c.args.s c.args.m c.args.from c.args.n c.args.w _ _ _ _ split.value split.front_len
+    (omega (arith, c.requires, row_end 0 c.args.w c.args.n (omega arith))) (omega arith) c.columns.ensures
 
-pub returns-then-m-n : goal.returns-then-m-n
-returns-then-m-n c =
-    let hs : c.args.m ≡ c.args.s = omega arith in let hn : c.args.m ≡ c.args.n = c.if-m-n.true in
-    joined c.args.to c.args.s c.args.m c.args.from c.args.n c.args.w c.args.work.now _ _ hs hn c.row_within.ensures
-
-pub returns-then-m-eq1 : goal.returns-then-m-eq1
-returns-then-m-eq1 c = let h : c.args.m ≡ 1 = omega arith in rw h c.column_within.ensures
+pub returns-else-to-from : goal.returns-else-to-from
+returns-else-to-from c =
+    let split = c.split_at_mut-front-else-to-from.ensures in
+    back_filled c.args.to c.args.s c.args.m c.args.from c.args.n c.args.w _ _ _ _ split.value split.front_len
+    (omega (arith, c.requires, row_end 0 c.args.w c.args.s (omega arith))) (omega arith) c.columns-else-to-from.ensures
