@@ -3,29 +3,13 @@
 // the column is stored; channel j of a column at place x in + j.
 #![tactic(auto)]
 
-ghost use Rattle.std.specs.Prelude.{◌≡◌, ℕ, ◌+◌, ◌-◌, ◌*◌, ◌≤◌, ◌<◌, min, length};
+ghost use Rattle.std.specs.Prelude.{◌≡◌, ℕ, ◌+◌, ◌-◌, ◌*◌, ◌≤◌, ◌<◌, length};
 ghost use Rattle.lists.specs.Tab.{at, fill, rows};
 ghost use Rattle.lists.specs.Region.{Apart};
 ghost use Rattle.ring.specs.Memory.{past, after, seen};
 ghost use Rattle.history.specs.Fits.{StoreFits, FetchFits, CopyFits, GatherFits};
 
 use ring::Ring;
-
-fn least(a: usize, b: usize) -> usize
-    ensures { result ≡ min a b }
-{
-    if a < b { a } else { b }
-}
-
-// One column of work, its channels next to each other, into the history from base on. As they are, the compiler copies four at once.
-fn store_next(history: &mut [f32], work: &[f32], base: usize, from: usize, ins: usize)
-    requires { (base + ins ≤ length history.old) × ((j : ℕ) → j < ins → from + j < length work.now) }
-    ensures { history.new ≡ fill base ins (λ j. at work.now (from + j)) history.old }
-{
-    for j in 0..ins {
-        history[base + j] = work[from + j];
-    }
-}
 
 // One column of work, its channels stride apart, into the history from base on.
 fn store_apart(
@@ -44,7 +28,7 @@ fn store_apart(
     }
 }
 
-// The same; those of a single column are next to each other.
+// The same. Those of a single column are next to each other, and with that said the compiler copies four at once.
 fn store_column(
     history: &mut [f32],
     work: &[f32],
@@ -57,7 +41,7 @@ fn store_column(
     ensures { history.new ≡ fill base ins (λ j. at work.now (from + j * stride)) history.old }
 {
     if stride == 1 {
-        store_next(history, work, base, from, ins);
+        store_apart(history, work, base, from, 1, ins);
     } else {
         store_apart(history, work, base, from, stride, ins);
     }
@@ -129,7 +113,7 @@ fn fetch(
     }
 }
 
-// n numbers of work to another place of it.
+// n numbers of work to another place of it. A block's rows lie on either side of that: a split for `copy_from_slice` would take both cases apart.
 fn copy(work: &mut [f32], to: usize, from: usize, n: usize)
     requires { (to + n ≤ length work.old) × (from + n ≤ length work.old) × Apart to n from n }
     ensures { work.new ≡ fill to n (λ t. at work.old (from + t)) work.old }
@@ -174,7 +158,7 @@ pub fn gather(
         (λ c t. seen (λ i. at work.old (x + c * stride + i)) (past ins ring.len (record { history = history.now; place = ring.at }) c) back t)
         work.old }
 {
-    let before = least(back, n);
+    let before = back.min(n);
     fetch(work, history, to, n, ring, ins, back, before);
     copy_rows(work, to + before, n, x, stride, ins, n - before);
 }
