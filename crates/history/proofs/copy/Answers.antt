@@ -21,8 +21,3 @@ loop-t-preserved c =
       search rules,
       fill_turn _ _ _ _ _ _ loop.invariant.5 (fill_apart nan _ _ (args.from + loop.t) _ _ _ loop.invariant.5 (omega arith)),
     )
-
-pub returns : goal.returns
-returns c =
-    let loop = c.loop-t in
-    let e : loop.t ≡ c.args.n = omega arith in rw e at loop.invariant.5

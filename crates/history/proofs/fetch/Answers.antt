@@ -11,11 +11,6 @@ use Rattle.ring.specs.Place.{next_place, place_back}
 use Rattle.history.proofs.Turns.{column_end, fetch_place, fetch_turn}
 use Rattle.history.proofs.fetch.Goals as goal
 
-pub back-first-requires : goal.back-first-requires
-back-first-requires c =
-    let pre = c.requires in
-    (pre.place_in, pre.back_in)
-
 pub loop-t-init : goal.loop-t-init
 loop-t-init c =
     let pre = c.requires in
@@ -24,17 +19,6 @@ loop-t-init c =
     let here : c.back-first.result < args.ring.len = rw c.back-first.ensures (back_lt _ _ _ f.place_in f.back_in) in
     let none : args.back ≡ args.back - 0 = omega arith in
     (search rules, search rules, search rules, here, λ p e lt g. (e ∙ ap (λ (k : ℕ). place_back args.ring.len p k) none, rows_narrow _ _ _ _ _))
-
-pub next-place-requires : goal.next-place-requires
-next-place-requires c =
-    let loop = c.loop-t in
-    rw loop.invariant.2 loop.invariant.3
-
-pub overflow_add-to : goal.overflow_add-to
-overflow_add-to c =
-    let pre = c.requires in
-    let args = c.args in
-    omega (arith, pre.rows_in, row_end 0 args.ins args.stride pre.some, pre.narrow, c.loop-t-test.true)
 
 pub overflow_mul-at : goal.overflow_mul-at
 overflow_mul-at c =
@@ -93,10 +77,3 @@ loop-t-preserved c =
           let q = fetch_place len p args.back l.t l.place.at _ hp g.back_in (omega (arith, g.before, loop-test.true)) was.0 to in
           (q, fetch_turn _ _ _ _ _ _ _ l.t _ _ args.work.now l.work _ g loop-test.true q was.1 fetch-column.ensures),
     )
-
-pub returns : goal.returns
-returns c =
-    let args = c.args in
-    let pre = c.requires in
-    let loop = c.loop-t in
-    let e : loop.t ≡ args.n = omega arith in rw e at (loop.invariant.4 args.ring.at c.back-first.ensures pre.place_in (pre)).1

@@ -14,11 +14,6 @@ use Rattle.history.proofs.store.Goals as goal
 pub loop-column-init : goal.loop-column-init
 loop-column-init c = (search rules, search rules, search rules, c.requires.place_in, sym (after_none _ _ _ _))
 
-pub next-place-requires : goal.next-place-requires
-next-place-requires c =
-    let loop = c.loop-column in
-    rw loop.invariant.2 loop.invariant.3
-
 pub overflow_mul-at : goal.overflow_mul-at
 overflow_mul-at c =
     let args = c.args in
@@ -31,11 +26,6 @@ overflow_mul-at c =
     let lt : next.result.at < len = rw to (next_lt len l.place.at l.invariant.3) in
     let end = column_end args.ins len next.result.at _ lt pre.history_is in
     omega (arith, end)
-
-pub overflow_add-x : goal.overflow_add-x
-overflow_add-x c =
-    let pre = c.requires in
-    omega (arith, pre.block_in 0 pre.some, c.loop-column-test.true)
 
 pub store_column-requires : goal.store_column-requires
 store_column-requires c =
@@ -69,9 +59,3 @@ loop-column-preserved c =
       lt,
       store_turn _ len l.column _ _ l.history _ l.place.at _ _ l.invariant.4 to store-column.ensures (λ j hj. ap (at args.work.now) (same j)),
     )
-
-pub returns : goal.returns
-returns c =
-    let args = c.args in
-    let loop = c.loop-column in
-    let e : loop.column ≡ args.n = omega arith in (rw e at loop.invariant.4, loop.invariant.2)

@@ -10,8 +10,3 @@ loop-j-init c = (search rules, search rules, sym (fill_none _ _ _))
 
 pub loop-j-preserved : goal.loop-j-preserved
 loop-j-preserved c = (search rules, search rules, fill_turn _ _ _ _ _ _ c.loop-j.invariant.2 refl)
-
-pub returns : goal.returns
-returns c =
-    let loop = c.loop-j in
-    let e : loop.j ≡ c.args.ins = omega arith in rw e at loop.invariant.2
