@@ -1,4 +1,4 @@
--- The two forms agree: out of place is the same as a copy, then in place. And what a planar region holds afterwards. Assumes nothing.
+-- Both ways agree: out of place is the same as a copy, then in place. And what a planar region holds afterwards. Assumes nothing.
 use mathlib.Core.Path.{◌≡◌, sym, ◌∙◌, ap}
 use mathlib.Core.Bool.{Bool, true}
 use mathlib.Core.List.{List}
@@ -14,7 +14,7 @@ use Rattle.film.specs.Modulated.{modulated, modulation_of, filmed}
 use Rattle.film.specs.Fits.{FilmFits}
 use Rattle.film.proofs.Turn.{modulation_ext}
 
--- moved: what `process` leaves; copied: the input copied to its place; here: what `process_in_place` then leaves
+-- moved: what `process` leaves; copied: the input copied to its place; here: what `process` then leaves in place
 pub agree : (shifted : Bool) (to from s n : ℕ) (work moved copied here : List Float) → FilmFits (length work) to s n shifted
     → moved ≡ fill to n (filmed shifted s n work from) work → copied ≡ fill to n (λ i. at work (from + i)) work
     → here ≡ fill to n (filmed shifted s n copied to) copied → moved ≡ here

@@ -1,7 +1,8 @@
--- One turn of both loops: what is read was not written yet. Assumes nothing.
+-- One turn of the loop: what is read was not written yet. Assumes nothing.
 use mathlib.Core.Path.{◌≡◌, refl}
 use mathlib.Core.Bool.{Bool, true, false}
 use mathlib.Core.List.{List}
+use mathlib.Core.Logic.{⊎_elim}
 use Prim.Native.Nat.{ℕ, ◌+◌, ◌<◌}
 use native.Mathlib.Omega.{arith}
 use lib.Ieee.{Float, nan}
@@ -10,13 +11,16 @@ use Rattle.lists.specs.Region.{Apart}
 use Rattle.lists.proofs.Fill.{fill_apart}
 use Rattle.film.specs.declared.Modulation.{Modulation}
 use Rattle.film.specs.Modulated.{modulated, modulation_of, filmed}
-use Rattle.film.specs.Fits.{FilmFits}
+use Rattle.film.specs.Fits.{FilmFits, ReadFirst}
 
 -- a shift is looked at only where there is one
 pub modulation_ext : (shifted : Bool) (a b c d : Float) → a ≡ b → (shifted ≡ true → c ≡ d) → modulation_of shifted a c ≡ modulation_of shifted b d
 unfolding modulation_of
 modulation_ext true a b c d e h = rw (e, h refl)
 modulation_ext false a b c d e h = rw e
+
+pub read_first : {to from n i : ℕ} → ReadFirst to from n → i < n → Apart to i (from + i) 1
+read_first h lt = ⊎_elim (λ l. omega (arith, l, lt)) (λ l. omega (arith, l, lt)) h
 
 pub film_turn : {shifted : Bool} {nwork to s n : ℕ} (from i : ℕ) (old work : List Float) (d : Modulation) (value : Float) → FilmFits nwork to s n shifted → i < n
     → work ≡ fill to i (filmed shifted s n old from) old → Apart to i (from + i) 1

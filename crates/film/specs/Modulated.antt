@@ -1,18 +1,18 @@
 -- FiLM's modulation. Document 01, 'The recurrence'.
-use Rattle.std.specs.Prelude.{Bool, true, false, cond, List, ℕ, ◌+◌, Float}
+use Rattle.std.specs.Prelude.{Bool, true, false, None, Some, List, ℕ, ◌+◌, Float}
 use Rattle.std.specs.Float.{binary32}
-use Rattle.std.specs.Float.Ieee.{add, mul, of_bits}
+use Rattle.std.specs.Float.Ieee.{add, mul}
 use Rattle.lists.specs.Tab.{at}
 use Rattle.film.specs.declared.Modulation.{Modulation}
 
 -- value = input x scale, then + shift only where there is one
 unfoldable pub modulated : Modulation → Float → Float
-modulated d input = cond d.shifted (add binary32 (mul binary32 input d.scale) d.shift) (mul binary32 input d.scale)
+modulated d input = elim d.shift [ None ↦ mul binary32 input d.scale | Some shift ↦ add binary32 (mul binary32 input d.scale) shift ]
 
--- scale and shift together; without a shift that field is +0, and not used
+-- scale and shift together
 unfoldable pub modulation_of : Bool → Float → Float → Modulation
-modulation_of true scale shift = record { scale = scale; shift = shift; shifted = true }
-modulation_of false scale shift = record { scale = scale; shift = of_bits binary32 0; shifted = false }
+modulation_of true scale shift = record { scale = scale; shift = Some shift }
+modulation_of false scale shift = record { scale = scale; shift = None }
 
 -- number i of those at `from`: the convolved condition gives n scales at s, then n shifts
 unfoldable pub filmed : Bool → ℕ → ℕ → List Float → ℕ → ℕ → Float

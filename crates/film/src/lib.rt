@@ -5,16 +5,14 @@
 
 ghost use Rattle.std.specs.Prelude.{◌≡◌, true, ◌+◌, ◌≤◌, ◌<◌, length};
 ghost use Rattle.lists.specs.Tab.{at, fill};
-ghost use Rattle.lists.specs.Region.{Apart};
 ghost use Rattle.film.specs.Modulated.{modulated, modulation_of, filmed};
-ghost use Rattle.film.specs.Fits.{FilmFits};
+ghost use Rattle.film.specs.Fits.{FilmFits, ReadFirst};
 
 // The scale of one number and its shift, where there is one.
 #[derive(Clone, Copy)]
 pub struct Modulation {
     pub scale: f32,
-    pub shift: f32,
-    pub shifted: bool,
+    pub shift: Option<f32>,
 }
 
 impl Modulation {
@@ -23,18 +21,10 @@ impl Modulation {
         requires { (from < length work.now) × (shifted ≡ true → from + n < length work.now) }
         ensures { result ≡ modulation_of shifted (at work.now from) (at work.now (from + n)) }
     {
-        if shifted {
-            Modulation {
-                scale: work[from],
-                shift: work[from + n],
-                shifted: true,
-            }
-        } else {
-            Modulation {
-                scale: work[from],
-                shift: 0.0,
-                shifted: false,
-            }
+        let shift = if shifted { Some(work[from + n]) } else { None };
+        Modulation {
+            scale: work[from],
+            shift,
         }
     }
 
@@ -42,35 +32,33 @@ impl Modulation {
     pub fn apply(self, input: f32) -> f32
         ensures { result ≡ modulated self input }
     {
-        let shifted = self.shifted;
-        if shifted {
-            input * self.scale + self.shift
-        } else {
-            input * self.scale
+        let scaled = input * self.scale;
+        match self.shift {
+            Some(shift) => scaled + shift,
+            None => scaled,
         }
     }
 }
 
-// The n numbers at `from`, modulated by the scales at s and the shifts at s + n, to n numbers at `to`.
-pub fn process(work: &mut [f32], to: usize, from: usize, s: usize, n: usize, shifted: bool)
-    requires { FilmFits (length work.old) to s n shifted × (from + n ≤ length work.old) × Apart to n from n }
+// The n numbers at `from`, modulated by the scales at s and the shifts at s + n, to n numbers at `to`, one after the other.
+fn one_by_one(work: &mut [f32], to: usize, from: usize, s: usize, n: usize, shifted: bool)
+    requires { FilmFits (length work.old) to s n shifted × (from + n ≤ length work.old) × ReadFirst to from n }
     ensures { work.new ≡ fill to n (filmed shifted s n work.old from) work.old }
 {
     for i in 0..n {
         let modulation = Modulation::read(work, s + i, n, shifted);
-        let value = modulation.apply(work[from + i]);
-        work[to + i] = value;
+        work[to + i] = modulation.apply(work[from + i]);
     }
 }
 
-// The n numbers at `to` likewise, where they are.
-pub fn process_in_place(work: &mut [f32], to: usize, s: usize, n: usize, shifted: bool)
-    requires { FilmFits (length work.old) to s n shifted }
-    ensures { work.new ≡ fill to n (filmed shifted s n work.old to) work.old }
+// The same. Where the numbers stay in place, that is said apart: told so, the compiler takes several at once.
+pub fn process(work: &mut [f32], to: usize, from: usize, s: usize, n: usize, shifted: bool)
+    requires { FilmFits (length work.old) to s n shifted × (from + n ≤ length work.old) × ReadFirst to from n }
+    ensures { work.new ≡ fill to n (filmed shifted s n work.old from) work.old }
 {
-    for i in 0..n {
-        let modulation = Modulation::read(work, s + i, n, shifted);
-        let value = modulation.apply(work[to + i]);
-        work[to + i] = value;
+    if to == from {
+        one_by_one(work, to, to, s, n, shifted);
+    } else {
+        one_by_one(work, to, from, s, n, shifted);
     }
 }

@@ -1,11 +1,11 @@
--- `film::Modulation::apply` meets its contract. By the two cases of the flag.
+-- By the two cases of the shift.
 use Rattle.film.specs.Modulated.{modulated}
 use Rattle.film.proofs.Modulation.apply.Goals as goal
 
-pub returns-then-shifted : goal.returns-then-shifted
+pub returns-in-Some : goal.returns-in-Some
 unfolding modulated
-returns-then-shifted c = rw c.if-shifted.true
+returns-in-Some c = rw c.in-Some.is
 
-pub returns-else-shifted : goal.returns-else-shifted
+pub returns-in-None : goal.returns-in-None
 unfolding modulated
-returns-else-shifted c = rw c.if-shifted.false
+returns-in-None c = rw c.in-None.is
