@@ -3,7 +3,7 @@
 #![tactic(auto)]
 
 ghost use Rattle.std.specs.Prelude.{◌≡◌, true, ◌+◌, ◌*◌, ◌≤◌, length, get_or};
-ghost use Rattle.lists.specs.Region.{Apart};
+ghost use Rattle.film.specs.Fits.{ReadFirst};
 ghost use Rattle.slot.specs.Play.{PlayFits, Played};
 ghost use Rattle.slot.specs.Site.{SiteFits, Sited};
 
@@ -54,39 +54,9 @@ pub fn play(
     positions[i] = next as u32;
 }
 
-// A FiLM site in place: w channels of m columns at `to`, by the scales and shifts that the convolved condition gives, if the site is there.
-pub fn site_in(
-    work: &mut [f32],
-    histories: &mut [f32],
-    positions: &mut [u32],
-    weights: &[f32],
-    condition: usize,
-    to: usize,
-    s: usize,
-    rows: usize,
-    part: Part,
-    at: Place,
-    shifted: bool,
-    w: usize,
-    width: usize,
-    m: usize,
-)
-    requires { SiteFits part shifted at (get_or positions.old at.positions 0) w width m (length work.old) (length histories.old) (length positions.old)
-        (length weights.now) condition to s rows }
-    ensures { Sited part shifted at weights.now w width m condition to to s rows to work.old histories.old positions.old
-        work.new histories.new positions.new }
-{
-    let Some(sh) = part else {
-        return;
-    };
-    play(
-        work, histories, positions, weights, condition, s, rows, sh, at, m,
-    );
-    film::process_in_place(work, to, s, w * m, shifted);
-}
-
-// The same from one region to another. It answers where the columns are: an absent site leaves them where they were, and copies nothing.
-pub fn site_to(
+// A FiLM site: w channels of m columns from one region to another, which may be the same, by the scales and shifts that the convolved condition gives.
+// It answers where the columns are: an absent site leaves them where they were, and copies nothing.
+pub fn site(
     work: &mut [f32],
     histories: &mut [f32],
     positions: &mut [u32],
@@ -106,7 +76,7 @@ pub fn site_to(
     requires site_fits { SiteFits part shifted at (get_or positions.old at.positions 0) w width m (length work.old) (length histories.old) (length positions.old)
         (length weights.now) condition to s rows }
     requires site_fits_2 { SiteFits part shifted at (get_or positions.old at.positions 0) w width m (length work.old) (length histories.old) (length positions.old)
-        (length weights.now) condition from s rows × Apart to (w * m) from (w * m) }
+        (length weights.now) condition from s rows × ReadFirst to from (w * m) }
     ensures { Sited part shifted at weights.now w width m condition from to s rows result work.old histories.old positions.old
         work.new histories.new positions.new }
 {

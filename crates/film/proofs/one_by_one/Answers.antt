@@ -1,6 +1,5 @@
 -- `film::one_by_one` meets its contract. What is read was not written yet, so each store is the rule's, by `film-turn`.
-use mathlib.Core.Path.{◌≡◌, sym}
-use native.Mathlib.Omega.{arith}
+use mathlib.Core.Path.{sym}
 use borrow.Author.Rules.{rules}
 use Rattle.film.proofs.Turn.{read_first, film_turn}
 use Rattle.lists.proofs.Fill.{fill_none, fill_turn}

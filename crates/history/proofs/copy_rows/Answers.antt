@@ -1,5 +1,4 @@
 -- One row more, by `copy_turn`.
-use mathlib.Core.Path.{◌≡◌}
 use native.Mathlib.Omega.{arith}
 use borrow.Author.Rules.{rules}
 use Rattle.history.proofs.Turns.{copy_turn}

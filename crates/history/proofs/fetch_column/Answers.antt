@@ -1,6 +1,5 @@
 -- One store more is one row of one place more.
-use mathlib.Core.Path.{◌≡◌, refl}
-use native.Mathlib.Omega.{arith}
+use mathlib.Core.Path.{refl}
 use borrow.Author.Rules.{rules}
 use Rattle.lists.proofs.Rows.{rows_none, rows-cell}
 use Rattle.history.proofs.fetch_column.Goals as goal

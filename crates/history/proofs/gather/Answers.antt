@@ -1,7 +1,5 @@
 -- The columns before the block, then the block's own, by `gather_is`.
-use native.Mathlib.Omega.{arith}
-use Rattle.lists.proofs.Nums.{row_end}
-use Rattle.history.proofs.Turns.{fetch_fits, copy_fits, gather_is}
+use Rattle.history.proofs.Turns.{gather_is}
 use Rattle.history.proofs.gather.Goals as goal
 
 pub returns : goal.returns

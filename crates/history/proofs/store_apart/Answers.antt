@@ -1,6 +1,5 @@
 -- One store more fills one place more.
-use mathlib.Core.Path.{◌≡◌, refl, sym}
-use native.Mathlib.Omega.{arith}
+use mathlib.Core.Path.{refl, sym}
 use borrow.Author.Rules.{rules}
 use Rattle.lists.proofs.Fill.{fill_none, fill_turn}
 use Rattle.history.proofs.store_apart.Goals as goal

@@ -1,7 +1,7 @@
--- An absent site answers `from` and changes nothing; one that is there is `play` and then FiLM into `to` (Sites).
+-- An absent site answers `from` and changes nothing; one that is there is `play` and then FiLM (Sites).
 use native.Mathlib.Omega.{arith}
 use Rattle.slot.proofs.Sites.{site_absent, film_fits, site_there}
-use Rattle.slot.proofs.site_to.Goals as goal
+use Rattle.slot.proofs.site.Goals as goal
 
 pub returns-in_default : goal.returns-in_default
 returns-in_default c = site_absent _ _ _ _ _ _ _ _ _ _ _ _ _ _ _ c.in_default.is
