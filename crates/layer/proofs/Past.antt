@@ -21,7 +21,7 @@ use Rattle.description.specs.declared.places.Place.{Place}
 use Rattle.slot.specs.View.{memory_in, weights_in}
 use Rattle.slot.specs.Steps.{pushed, convolved, sited}
 use Rattle.slot.specs.Play.{Played}
-use Rattle.slot.specs.Site.{Sited}
+use Rattle.slot.specs.Site.{result_at, Sited}
 use Rattle.slot.proofs.Sites.{site_absent}
 use Rattle.slot.proofs.Trace.{play_trace, site_trace, place_stays, site_place_stays, memory_kept}
 use Rattle.layer.specs.Column.{applied_site, site, site'}
@@ -34,6 +34,17 @@ use Rattle.layer.proofs.Asks.{Applied, as_is, not_applied, applied, still, site_
 -- a place outside of the regions that a step writes
 abbrev Outside : ℕ → ℕ → ℕ → Type 0
 Outside size to n = Apart to size n 1 × Apart (9 * size) (3 * size) n 1
+
+-- a site in place leaves the columns where they are, there or not
+stays : (p : Part) (to : ℕ) → result_at p to to ≡ to
+unfolding result_at
+stays Absent to = refl
+stays (There sh) to = refl
+
+pub in_place : {a : ArrayRecord} {r : LayerRecord} {start : Place} {weights : List Float} {size m : ℕ} {work histories work' histories' : List Float} {positions positions' : List ℕ} {i to result : ℕ}
+    → SitePast a r start weights size m work histories positions work' histories' positions' i to to result
+    → SitePast a r start weights size m work histories positions work' histories' positions' i to to to
+in_place {a} {r} {i = i} {to = to} h = let e = h.there ∙ stays (applied_site a r i) to in rw e at h
 
 module _ {a : ArrayRecord} {r : LayerRecord} {start : Place} {size m nwork : ℕ} {histories : List Float} {positions : List ℕ} {weights : List Float}
     (fits : LayerFits a r start size m nwork histories positions weights) where

@@ -6,7 +6,7 @@ ghost use Rattle.layer.specs.Layered.{LayerFits};
 ghost use Rattle.layer.specs.Slots.{SlotsOf};
 ghost use Rattle.layer.specs.Pieces.{Fronted, Mixed, GatedPast, Headed, Residual};
 
-use crate::sites::{convolve, modulate, modulated, plays};
+use crate::sites::{convolve, modulate, plays};
 use crate::slots::Slots;
 use description::parts::doubled;
 use description::records::{ArrayRecord, LayerRecord};
@@ -35,13 +35,15 @@ pub fn front(
     let to = 7 * size;
     let mut from = input;
     if plays(r, 0) {
-        from = modulated(
+        from = modulate(
             work, hist, pos, weights, a, r, slots, 0, input, spare, channels, size, m,
         );
     }
     convolve(work, hist, pos, weights, a, r, slots, 0, from, to, size, m);
     if plays(r, 1) {
-        modulate(work, hist, pos, weights, a, r, slots, 1, to, mid, size, m);
+        modulate(
+            work, hist, pos, weights, a, r, slots, 1, to, to, mid, size, m,
+        );
     }
 }
 
@@ -69,13 +71,15 @@ pub fn mixer(
     let to = 8 * size;
     let mut from = condition;
     if plays(r, 2) {
-        from = modulated(
+        from = modulate(
             work, hist, pos, weights, a, r, slots, 2, condition, spare, width, size, m,
         );
     }
     convolve(work, hist, pos, weights, a, r, slots, 1, from, to, size, m);
     if plays(r, 3) {
-        modulate(work, hist, pos, weights, a, r, slots, 3, to, mid, size, m);
+        modulate(
+            work, hist, pos, weights, a, r, slots, 3, to, to, mid, size, m,
+        );
     }
 }
 
@@ -103,14 +107,16 @@ pub fn gate(
     let mixed = 8 * size;
     carry::add_to(work, z, mixed, mid * m);
     if plays(r, 4) {
-        modulate(work, hist, pos, weights, a, r, slots, 4, z, mid, size, m);
+        modulate(work, hist, pos, weights, a, r, slots, 4, z, z, mid, size, m);
     }
     let mode = r.mode;
     let primary = r.primary;
     let secondary = r.secondary;
     gating::gating(work, to, z, width * m, mode, primary, secondary);
     if plays(r, 5) {
-        modulate(work, hist, pos, weights, a, r, slots, 5, to, width, size, m);
+        modulate(
+            work, hist, pos, weights, a, r, slots, 5, to, to, width, size, m,
+        );
     }
 }
 
@@ -142,7 +148,9 @@ pub fn head(
     let to = 12 * size;
     convolve(work, hist, pos, weights, a, r, slots, 3, from, to, size, m);
     if plays(r, 7) {
-        modulate(work, hist, pos, weights, a, r, slots, 7, to, width, size, m);
+        modulate(
+            work, hist, pos, weights, a, r, slots, 7, to, to, width, size, m,
+        );
     }
     carry::add_to(work, accumulator, to, width * m);
 }
@@ -173,7 +181,9 @@ pub fn residual(
     let to = 13 * size;
     convolve(work, hist, pos, weights, a, r, slots, 2, from, to, size, m);
     if plays(r, 6) {
-        modulate(work, hist, pos, weights, a, r, slots, 6, to, width, size, m);
+        modulate(
+            work, hist, pos, weights, a, r, slots, 6, to, to, width, size, m,
+        );
     }
     carry::add_to(work, to, input, width * m);
     to

@@ -1,5 +1,5 @@
 // The convolutions and FiLM sites of a layer, on their regions. Document 01, 'The recurrence' (FiLM, Layer).
-ghost use Rattle.std.specs.Prelude.{◌≡◌, ◌+◌, ◌*◌, ◌≤◌, ◌<◌, length};
+ghost use Rattle.std.specs.Prelude.{◌≡◌, ◌⊎◌, ◌+◌, ◌*◌, ◌≤◌, ◌<◌, length};
 ghost use Rattle.description.specs.Parts.{site_width};
 ghost use Rattle.description.specs.Ranges.{ArrayRanges, LayerRanges};
 ghost use Rattle.description.specs.ZeroRules.{bit};
@@ -90,42 +90,8 @@ pub fn convolve(
     );
 }
 
-// FiLM site i in place: w channels at `to`. Regions 9 to 11 are used up.
+// FiLM site i: w channels from a region to another, or in place. It answers where they are. Regions 9 to 11 are used up.
 pub fn modulate(
-    work: &mut [f32],
-    histories: &mut [f32],
-    positions: &mut [u32],
-    weights: &[f32],
-    a: ArrayRecord,
-    r: LayerRecord,
-    slots: Slots,
-    i: usize,
-    to: usize,
-    w: usize,
-    size: usize,
-    m: usize,
-)
-    requires layer_fits { LayerFits a r slots.conv size m (length work.old) histories.old positions.old weights.now }
-    requires slots_of { SlotsOf a r slots }
-    requires behind { Behind a r i × Room size to × (w ≡ site_width a r i) }
-    ensures { SitePast a r slots.conv weights.now size m work.old histories.old positions.old
-        work.new histories.new positions.new i to to to }
-{
-    let part = applied_site(a, r, i);
-    let with_shift = shifted(r, i);
-    let at = slots.place(4 + i);
-    let condition = 3 * size;
-    let s = 9 * size;
-    let rows = 11 * size;
-    let width = a.condition;
-    slot::site_in(
-        work, histories, positions, weights, condition, to, s, rows, part, at, with_shift, w,
-        width, m,
-    );
-}
-
-// FiLM site i from a region to another: w channels. It answers where they are.
-pub fn modulated(
     work: &mut [f32],
     histories: &mut [f32],
     positions: &mut [u32],
@@ -142,7 +108,8 @@ pub fn modulated(
 ) -> usize
     requires layer_fits { LayerFits a r slots.conv size m (length work.old) histories.old positions.old weights.now }
     requires slots_of { SlotsOf a r slots }
-    requires behind { Behind a r i × Room size to × (w ≡ site_width a r i) × (from + size ≤ to) × (to ≤ 9 * size) }
+    requires behind { Behind a r i × Room size to × (w ≡ site_width a r i) }
+    requires places { (from ≡ to) ⊎ ((from + size ≤ to) × (to ≤ 9 * size)) }
     ensures { SitePast a r slots.conv weights.now size m work.old histories.old positions.old
         work.new histories.new positions.new i from to result }
 {
@@ -153,7 +120,7 @@ pub fn modulated(
     let s = 9 * size;
     let rows = 11 * size;
     let width = a.condition;
-    slot::site_to(
+    slot::site(
         work, histories, positions, weights, condition, from, to, s, rows, part, at, with_shift, w,
         width, m,
     )
