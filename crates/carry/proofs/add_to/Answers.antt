@@ -1,5 +1,5 @@
 use Rattle.lists.proofs.Fill.{fill_none, fill_turn, fill_apart}
-use mathlib.Core.Path.{◌≡◌, sym}
+use mathlib.Core.Path.{sym}
 use Prim.Native.Nat.{◌+◌}
 use native.Mathlib.Omega.{arith}
 use lib.Ieee.{nan}
@@ -15,6 +15,3 @@ loop-i-preserved c =
     let a = fill_apart nan _ _ (c.args.to + c.loop-i.i) _ _ _ e (omega arith) in
     let b = fill_apart nan _ _ (c.args.from + c.loop-i.i) _ _ _ e (omega arith) in
     (search rules, search rules, search rules, search rules, search rules, fill_turn _ _ _ _ _ _ e (rw (a, b)))
-
-pub returns : goal.returns
-returns c = let e : c.loop-i.i ≡ c.args.n = omega arith in rw e at c.loop-i.invariant.5
