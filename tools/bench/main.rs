@@ -109,9 +109,9 @@ fn main() {
         timing::ROUNDS * timing::RUNS
     );
     println!(
-        "The exported exp and tanh make their tables anew in every call, where a block of ours makes them once: the Rust with our functions pays for"
+        "The Rust with our functions calls the exported exp and tanh for each number, where a block of ours goes over many: the last column, with its"
     );
-    println!("that, and the last column, with its own, is the one to go by.\n");
+    println!("own, is the one to go by.\n");
     println!("## Ten layers of 16 channels\n");
     table(shapes);
     println!("## Growth: mode None with Tanh\n");
