@@ -27,29 +27,17 @@ module _ (sh : Shape) (weights : List Float) (s : Memory) where
       let is : kernel_count sh + o + i ≡ kernel_count sh + (o + i) = omega arith in
       rw (h, b, e, is)
 
-  -- the sums of n lanes, stored one after another, are n outputs from o on
-  pub lanes_are : (lanes to m o count n : ℕ) (begun sums old last : List Float) → count ≡ kernel_count sh → n ≡ lanes
+  -- the sums of the lanes, stored one after another, are as many outputs from o on
+  pub lanes_are : (lanes to m o count : ℕ) (begun sums old last : List Float) → count ≡ kernel_count sh
       → begun ≡ tab lanes (λ i. cond sh.biased (at weights (count + o + i)) (of_bits binary32 0))
       → sums ≡ tab lanes (λ i. taps_from sh weights (past sh.ins (ring_length sh) s) (o + i) sh.kernel (at begun i))
-      → last ≡ rows to m 1 lanes (λ i t. at sums i) old → last ≡ rows to m 1 n (λ i t. output sh weights s (o + i)) old
-  lanes_are lanes to m o count n begun sums old last e en b h l =
-      let same = rows_ext to m 1 lanes (λ i t. at sums i) (λ i t. output sh weights s (o + i)) old (λ i t hi ht.
+      → last ≡ rows to m 1 lanes (λ i t. at sums i) old → last ≡ rows to m 1 lanes (λ i t. output sh weights s (o + i)) old
+  lanes_are lanes to m o count begun sums old last e b h l =
+      l
+      ∙ rows_ext to m 1 lanes (λ i t. at sums i) (λ i t. output sh weights s (o + i)) old (λ i t hi ht.
       lane_output o i count (at begun i) (at sums i) e
       (rw (b, at-tab nan lanes _ i hi))
-      (rw (h, at-tab nan lanes _ i hi))) in
-      rw en (l ∙ same)
-
-  -- one output alone
-  pub one_is : (old : List Float) (out m o count n : ℕ) (begun sum : Float) → count ≡ kernel_count sh → n ≡ 1
-      → begun ≡ cond sh.biased (at weights (count + o)) (of_bits binary32 0) → sum ≡ taps_from sh weights (past sh.ins (ring_length sh) s) o sh.kernel begun
-      → set old (out + o * m) sum ≡ rows (out + o * m) m 1 n (λ i t. output sh weights s (o + i)) old
-  unfolding output start_of
-  one_is old out m o count n begun sum e en b h =
-      let here : out + o * m ≡ out + o * m + 0 * m = omega arith in
-      let own : o + 0 ≡ o = omega arith in
-      let cell : set old (out + o * m + 0 * m) sum ≡ rows (out + o * m) m 1 1 (λ i t. output sh weights s (o + i)) old =
-      rows-cell (out + o * m) m 0 (λ i t. output sh weights s (o + i)) old old sum (rows_none _ _ _ _ _) (rw (own, h, b, e)) in
-      ap (λ (i : ℕ). set old i sum) here ∙ rw en cell
+      (rw (h, at-tab nan lanes _ i hi)))
 
   -- n outputs more
   pub outputs_turn : (old work last : List Float) (out m first i n : ℕ) → work ≡ rows (out + first * m) m 1 i (λ i t. output sh weights s (first + i)) old
@@ -68,12 +56,6 @@ module _ (sh : Shape) (weights : List Float) (s : Memory) where
       → last ≡ rows (out + g * n * m) m 1 n (λ i t. output sh weights s (g * n + i)) work
       → last ≡ rows out m 1 ((g + 1) * n) (λ o t. output sh weights s o) old
   groups_turn old work last out m g n e l = l ∙ rw (e, row_next g n) (rows_join out m 1 (g * n) n (λ o t. output sh weights s o) old)
-
--- a stretch that is neither one output nor four is eight
-pub eight_left : {n : ℕ} → (n ≡ 1) ⊎ ((n ≡ 4) ⊎ (n ≡ 8)) → (n ≡ 1 → ⊥) → (n ≡ 4 → ⊥) → n ≡ 8
-eight_left (inl e) one four = absurd (one e)
-eight_left (inr (inl e)) one four = absurd (four e)
-eight_left (inr (inr e)) one four = e
 
 -- ---- the memory
 pub sound : {sh : Shape} {len nweights : ℕ} (s : Memory) → PartsFit sh s.place len (length s.history) nweights → Sound sh.ins (ring_length sh) s

@@ -3,7 +3,7 @@
 // input 0 upward.
 #![tactic(auto)]
 
-ghost use Rattle.std.specs.Prelude.{◌≡◌, true, cond, ◌⊎◌, ℕ, ◌+◌, ◌*◌, ◌≤◌, ◌<◌, length};
+ghost use Rattle.std.specs.Prelude.{◌≡◌, true, cond, ℕ, ◌+◌, ◌*◌, ◌≤◌, ◌<◌, length};
 ghost use Rattle.std.specs.Float.Ieee.{of_bits};
 ghost use Rattle.std.specs.Float.{binary32};
 ghost use Rattle.lists.specs.Tab.{at, rows};
@@ -13,7 +13,7 @@ ghost use Rattle.column.specs.Fits.{PartsFit, GroupFits};
 
 pub mod lanes;
 
-use crate::lanes::{start_eight, start_four, taps_eight, taps_four, taps_one};
+use crate::lanes::{start, taps};
 use ring::Ring;
 use shape::Shape;
 
@@ -33,8 +33,8 @@ pub fn steps_back(sh: Shape, k: usize) -> usize
     (sh.kernel - 1 - k) * sh.dilation
 }
 
-// The n outputs from o on, which are of group g: eight or four side by side, or one alone. An output's number is m places after that of the output before.
-fn some_outputs(
+// The L outputs from o on, which are of group g, side by side. An output's number is m places after that of the output before.
+fn some_outputs<const L: usize>(
     work: &mut [f32],
     history: &[f32],
     weights: &[f32],
@@ -44,40 +44,44 @@ fn some_outputs(
     sh: Shape,
     g: usize,
     o: usize,
-    n: usize,
 )
-    requires { PartsFit sh ring.at ring.len (length history.now) (length weights.now) × GroupFits sh g o n
-        × ((n ≡ 1) ⊎ ((n ≡ 4) ⊎ (n ≡ 8))) × ((o : ℕ) → o < sh.outs → out + o * m < length work.old) }
-    ensures { work.new ≡ rows (out + o * m) m 1 n
+    requires { PartsFit sh ring.at ring.len (length history.now) (length weights.now) × GroupFits sh g o L × (0 < L)
+        × ((o : ℕ) → o < sh.outs → out + o * m < length work.old) }
+    ensures { work.new ≡ rows (out + o * m) m 1 L
         (λ i t. output sh weights.now (record { history = history.now; place = ring.at }) (o + i)) work.old }
 {
-    let biased = sh.biased;
-    let from = sh.kernel_count() + o;
-    if n == 1 {
-        let begun = bias(weights, biased, from);
-        let sum = taps_one(begun, history, weights, ring, sh, g, o);
-        work[out + o * m] = sum;
-    } else if n == 4 {
-        let begun = start_four(weights, biased, from);
-        let sums = taps_four(begun, history, weights, ring, sh, g, o);
-        sums::few::put_half(work, out + o * m, m, sums);
-    } else {
-        let begun = start_eight(weights, biased, from);
-        let sums = taps_eight(begun, history, weights, ring, sh, g, o);
-        sums::eight::put(work, out + o * m, m, sums);
-    }
+    let begun = start::<L>(weights, sh.biased, sh.kernel_count() + o);
+    let sums = taps(begun, history, weights, ring, sh, g, o);
+    sums::lanes::put(work, out + o * m, m, sums);
 }
 
-// How many outputs are taken next, where some are left.
-fn stretch(left: usize) -> usize
-    requires { 0 < left }
-    ensures { (0 < result) × (result ≤ left) × ((result ≡ 1) ⊎ ((result ≡ 4) ⊎ (result ≡ 8))) }
+// The next outputs of group g, of which `left` from o on are left: eight or four side by side, or one alone. Answers how many it took.
+fn next_outputs(
+    work: &mut [f32],
+    history: &[f32],
+    weights: &[f32],
+    out: usize,
+    m: usize,
+    ring: Ring,
+    sh: Shape,
+    g: usize,
+    o: usize,
+    left: usize,
+) -> usize
+    requires { PartsFit sh ring.at ring.len (length history.now) (length weights.now) × GroupFits sh g o left × (0 < left)
+        × ((o : ℕ) → o < sh.outs → out + o * m < length work.old) }
+    ensures taken { (0 < result) × (result ≤ left) }
+    ensures done { work.new ≡ rows (out + o * m) m 1 result
+        (λ i t. output sh weights.now (record { history = history.now; place = ring.at }) (o + i)) work.old }
 {
     if 8 <= left {
+        some_outputs::<8>(work, history, weights, out, m, ring, sh, g, o);
         8
     } else if 4 <= left {
+        some_outputs::<4>(work, history, weights, out, m, ring, sh, g, o);
         4
     } else {
+        some_outputs::<1>(work, history, weights, out, m, ring, sh, g, o);
         1
     }
 }
@@ -102,9 +106,8 @@ fn group_outputs(
     let first = g * opg;
     let mut i = 0;
     while i < opg {
-        let n = stretch(opg - i);
-        some_outputs(work, history, weights, out, m, ring, sh, g, first + i, n);
-        i = i + n;
+        let left = opg - i;
+        i += next_outputs(work, history, weights, out, m, ring, sh, g, first + i, left);
     }
 }
 

@@ -3,43 +3,20 @@
 ghost use Rattle.std.specs.Prelude.{◌≡◌, ◌+◌, ◌*◌, ◌≤◌, length};
 ghost use Rattle.std.specs.Float.Ieee.{add, mul};
 ghost use Rattle.std.specs.Float.{binary32};
-ghost use Rattle.lists.specs.Tab.{at, tab, fill, rows};
+ghost use Rattle.lists.specs.Tab.{at, tab, fill};
 ghost use Rattle.single.specs.Sum.{sum_from};
 ghost use Rattle.sums.specs.Product.{product};
 ghost use Rattle.sums.specs.Fits.{InputsFit, RowFits};
 
-// Sixteen numbers of work.
-fn load(work: &[f32], from: usize) -> [f32; 16]
-    requires { from + 16 ≤ length work.now }
-    ensures { result ≡ tab 16 (λ i. at work.now (from + i)) }
-{
-    let mut r = [0.0f32; 16];
-    for i in 0..16 {
-        r[i] = work[from + i];
-    }
-    r
-}
-
-// Sixteen numbers into work.
-fn save(work: &mut [f32], to: usize, sums: [f32; 16])
-    requires { to + 16 ≤ length work.old }
-    ensures { work.new ≡ fill to 16 (at sums) work.old }
-{
-    for i in 0..16 {
-        work[to + i] = sums[i];
-    }
-}
+use crate::lanes::{load, save};
+use std::array::from_fn;
 
 // One input's product, in each of sixteen columns.
 fn add_input(sums: [f32; 16], work: &[f32], from: usize, w: f32) -> [f32; 16]
     requires { from + 16 ≤ length work.now }
     ensures { result ≡ tab 16 (λ i. add binary32 (at sums i) (mul binary32 w (at work.now (from + i)))) }
 {
-    let mut r = sums;
-    for i in 0..16 {
-        r[i] = r[i] + w * work[from + i];
-    }
-    r
+    from_fn(move |i| sums[i] + w * work[from + i])
 }
 
 // Every input's product, in each of sixteen columns. The inputs' rows are stride apart, their weights step.
@@ -90,7 +67,7 @@ pub fn add_row(
     }
 }
 
-// A row of n equal numbers.
+// A row of n equal numbers. (The slice's `fill` writes the last one by itself, which makes a short block some per cent slower.)
 pub fn flat(work: &mut [f32], to: usize, n: usize, v: f32)
     requires { to + n ≤ length work.old }
     ensures { work.new ≡ fill to n (λ t. v) work.old }

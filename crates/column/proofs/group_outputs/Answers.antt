@@ -1,5 +1,6 @@
 -- A stretch of outputs more a turn, by `outputs_turn`.
 use mathlib.Core.Path.{◌≡◌, sym}
+use Prim.Native.Nat.{◌-◌}
 use native.Mathlib.Omega.{arith}
 use borrow.Author.Rules.{rules}
 use Rattle.lists.proofs.Rows.{rows_none}
@@ -36,54 +37,26 @@ overflow_add-first c =
     let end = rw (sym e) at (group_end d r args.g pre.1) in
     omega (arith, end, r.outs_high, c.loop-i-test.true)
 
-pub some_outputs-requires : goal.some_outputs-requires
-some_outputs-requires c =
+pub next_outputs-i-requires : goal.next_outputs-i-requires
+next_outputs-i-requires c =
     let pre = c.requires in
     let args = c.args in
-    let outputs-per-group = c.outputs_per_group-opg in
     let loop = c.loop-i in
-    let loop-test = c.loop-i-test in
-    let next = c.stretch-n in
-    let e = outputs-per-group.ensures in
-    let d = pre.0.divided in
-    let r = pre.0.range in
-    let end = rw (sym e) at (group_end d r args.g pre.1) in
-    let few = next.ensures in (
+    let opg = c.outputs_per_group-opg in (
       pre.0,
-      stretch loop.i next.result (group_fits d r args.g outputs-per-group.result outputs-per-group.result pre.1 e (omega arith)) (omega (arith, few.1, loop-test.true)),
-      few.2,
+      stretch loop.i (opg.result - loop.i) (group_fits pre.0.divided pre.0.range args.g opg.result opg.result pre.1 opg.ensures (omega arith)) (omega (arith, loop.invariant.0)),
+      omega (arith, c.loop-i-test.true),
       λ o ho. omega (arith, loop.invariant.1, pre.2 o ho),
     )
-
-pub overflow_add-i : goal.overflow_add-i
-overflow_add-i c =
-    let pre = c.requires in
-    let args = c.args in
-    let outputs-per-group = c.outputs_per_group-opg in
-    let loop-test = c.loop-i-test in
-    let next = c.stretch-n in
-    let e = outputs-per-group.ensures in
-    let d = pre.0.divided in
-    let r = pre.0.range in
-    let end = rw (sym e) at (group_end d r args.g pre.1) in
-    omega (arith, next.ensures.0, next.ensures.1, loop-test.true, end, r.outs_high)
-
-pub loop-i-smaller : goal.loop-i-smaller
-loop-i-smaller c =
-    let loop-test = c.loop-i-test in
-    let next = c.stretch-n in
-    omega (arith, next.ensures.0, next.ensures.1, loop-test.true)
 
 pub loop-i-preserved : goal.loop-i-preserved
 loop-i-preserved c =
     let args = c.args in
     let loop = c.loop-i in
-    let loop-test = c.loop-i-test in
-    let next = c.stretch-n in
-    let some-outputs = c.some_outputs in (
-      omega (arith, next.ensures.0, next.ensures.1, loop-test.true),
-      omega (arith, some-outputs.auto.work, loop.invariant.1),
-      outputs_turn args.sh args.weights.now _ args.work.now loop.work _ _ _ _ loop.i next.result loop.invariant.2 some-outputs.ensures,
+    let next = c.next_outputs-i in (
+      omega (arith, next.ensures.taken.1, c.loop-i-test.true),
+      omega (arith, next.auto.work, loop.invariant.1),
+      outputs_turn args.sh args.weights.now _ args.work.now loop.work _ _ _ _ loop.i next.result loop.invariant.2 next.ensures.done,
     )
 
 pub returns : goal.returns

@@ -5,7 +5,7 @@ use lib.ListN.{length}
 use borrow.Author.Rules.{rules}
 use Rattle.lists.proofs.Tab.{length-tab}
 use Rattle.sums.specs.Product.{product}
-use Rattle.sums.proofs.Lanes.{lanes_none, lanes_more}
+use Rattle.sums.proofs.SideBySide.{lanes_none, lanes_more}
 use Rattle.sums.proofs.row.add_inputs.Goals as goal
 
 pub loop-j-init : goal.loop-j-init

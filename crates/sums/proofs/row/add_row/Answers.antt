@@ -3,7 +3,7 @@ use mathlib.Core.Path.{◌≡◌, sym}
 use Prim.Native.Nat.{◌*◌}
 use native.Mathlib.Omega.{arith}
 use borrow.Author.Rules.{rules}
-use Rattle.sums.proofs.Lanes.{tile_fits, row_turn}
+use Rattle.sums.proofs.SideBySide.{tile_fits, row_turn}
 use Rattle.lists.proofs.Fill.{fill_none}
 use Rattle.sums.proofs.row.add_row.Goals as goal
 

@@ -1,0 +1,62 @@
+-- `sums::lanes::add_each` meets its contract. After j inputs each lane has the sum of j products, by `lanes-more`.
+use mathlib.Core.Path.{◌≡◌, ◌∙◌, ap}
+use Prim.Native.Nat.{ℕ, ◌+◌, ◌*◌}
+use native.Mathlib.Omega.{arith}
+use lib.ListN.{length}
+use lib.Ieee.{nan}
+use borrow.Author.Rules.{rules}
+use Rattle.lists.proofs.Tab.{length-tab, tab_ext}
+use Rattle.sums.specs.Product.{product}
+use Rattle.sums.proofs.SideBySide.{lanes_none, lanes_more}
+use Rattle.sums.proofs.lanes.add_each.Goals as goal
+
+pub loop-j-init : goal.loop-j-init
+loop-j-init g c = (search rules, search rules, c.requires, lanes_none g.row.L _ _ (search rules))
+
+pub overflow_mul-j : goal.overflow_mul-j
+overflow_mul-j g c =
+    let loop = c.loop-j in
+    omega (arith, loop.invariant.2.values_in, loop.invariant.2.weights_inside 0 loop.j (omega arith) c.loop-j-test.true)
+
+pub overflow_add-w : goal.overflow_add-w
+overflow_add-w g c =
+    let loop = c.loop-j in
+    omega (arith, loop.invariant.2.values_in, loop.invariant.2.weights_inside 0 loop.j (omega arith) c.loop-j-test.true)
+
+pub overflow_add-from : goal.overflow_add-from
+overflow_add-from g c =
+    let loop = c.loop-j in
+    omega (arith, loop.invariant.2.values_in, loop.invariant.2.weights_inside 0 loop.j (omega arith) c.loop-j-test.true)
+
+pub offset_bounds-values-from : goal.offset_bounds-values-from
+offset_bounds-values-from g c =
+    let loop = c.loop-j in
+    omega (arith, loop.invariant.2.values_in, loop.invariant.2.weights_inside 0 loop.j (omega arith) c.loop-j-test.true)
+
+pub bounds-values-from : goal.bounds-values-from
+bounds-values-from g c =
+    let loop = c.loop-j in
+    omega (arith, loop.invariant.2.values_in, loop.invariant.2.weights_inside 0 loop.j (omega arith) c.loop-j-test.true)
+
+pub add_input-more-requires : goal.add_input-more-requires
+add_input-more-requires g c =
+    let loop = c.loop-j in
+    (search rules, λ i lt. omega (arith, loop.invariant.2.weights_inside i loop.j (omega arith) c.loop-j-test.true))
+
+pub loop-j-preserved : goal.loop-j-preserved
+unfolding product
+loop-j-preserved g c =
+    let args = c.args in
+    let loop = c.loop-j in
+    let same : (i : ℕ) → args.w + loop.j * args.step + i * args.between ≡ args.w + i * args.between + loop.j * args.step = λ i. omega arith in (
+      search rules,
+      ap length c.add_input-more.ensures ∙ length-tab g.row.L _,
+      loop.invariant.2,
+      lanes_more g.row.L loop.j _ _ loop.r _ loop.invariant.3 (c.add_input-more.ensures ∙ tab_ext nan g.row.L _ _ (λ i lt. rw (same i))),
+    )
+
+pub returns : goal.returns
+returns g c =
+    let args = c.args in
+    let loop = c.loop-j in
+    let e : loop.j ≡ args.many = omega arith in rw e at loop.invariant.3
