@@ -1,16 +1,15 @@
 -- One column: lanes are outputs, stretches of outputs make a group, groups make all; and the memory keeps its size. Assumes nothing.
 use mathlib.Core.Path.{◌≡◌, sym, ◌∙◌, ap}
 use mathlib.Core.Bool.{cond}
-use mathlib.Core.Logic.{◌⊎◌, inl, inr}
 use mathlib.Core.List.{List}
 use Prim.Native.Nat.{ℕ, ◌+◌, ◌*◌}
 use native.Mathlib.Omega.{arith}
-use lib.ListN.{length, set}
+use lib.ListN.{length}
 use lib.Ieee.{Float, nan, binary32, of_bits}
 use Rattle.lists.specs.Tab.{at, tab, rows}
 use Rattle.lists.proofs.Nums.{row_next}
 use Rattle.lists.proofs.Tab.{at-tab}
-use Rattle.lists.proofs.Rows.{rows_none, rows_ext, rows_join, rows-cell}
+use Rattle.lists.proofs.Rows.{rows_ext, rows_join}
 use Rattle.ring.specs.Memory.{Memory, Sound, past, after}
 use Rattle.ring.proofs.Window.{after_sound}
 use Rattle.shape.specs.declared.Shape.{Shape}

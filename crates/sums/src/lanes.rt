@@ -51,6 +51,7 @@ fn add_input<const L: usize>(
 }
 
 // Four inputs, their weights next to each other (kernel 1). As four and the step are written out, the compiler loads four weights of an output at once.
+// (The check does not cover a result that is laid at once in the array that the call took: so `more`, here and below.)
 fn four_next<const L: usize>(
     sums: [f32; L],
     values: &[f32],
@@ -161,7 +162,7 @@ pub fn add_outputs<const L: usize>(
     add_each(sums, values, weights, from, w, between, step, many)
 }
 
-// L numbers into work, stride apart.
+// L numbers into work, stride apart. By index, as nothing is known of the elements once `iter_mut` is over.
 fn put_apart<const L: usize>(work: &mut [f32], to: usize, stride: usize, sums: [f32; L])
     requires { (i : ℕ) → i < L → to + i * stride < length work.old }
     ensures { work.new ≡ rows to stride 1 L (λ i t. at sums.entry i) work.old }

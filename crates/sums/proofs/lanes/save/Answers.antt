@@ -1,5 +1,5 @@
 -- `sums::lanes::save` meets its contract. The others by `others-turn`, then the first by `first-last`.
-use mathlib.Core.Path.{◌≡◌, refl, sym}
+use mathlib.Core.Path.{◌≡◌, sym}
 use Prim.Native.Nat.{◌+◌, ◌-◌}
 use native.Mathlib.Omega.{arith}
 use borrow.Author.Rules.{rules}
