@@ -30,24 +30,18 @@ pub struct Tally {
     pub depth: usize,
 }
 
-fn larger(a: usize, b: usize) -> usize
-    ensures { result ≡ max a b }
-{
-    if a < b { b } else { a }
-}
-
 fn array_widest(a: ArrayRecord) -> usize
     ensures { result ≡ largest (array_widths a) }
 {
-    let heads = larger(a.head_in, a.head_size);
-    larger(a.input, larger(a.condition, larger(a.channels, heads)))
+    let heads = a.head_in.max(a.head_size);
+    a.input.max(a.condition.max(a.channels.max(heads)))
 }
 
 fn layer_widest(r: LayerRecord) -> usize
     requires { LayerRanges r }
     ensures { result ≡ largest (layer_widths r) }
 {
-    larger(r.bottleneck, larger(doubled(r), r.head1x1_width))
+    r.bottleneck.max(doubled(r).max(r.head1x1_width))
 }
 
 // Refusal 4 at one layer.
@@ -115,7 +109,7 @@ impl Tally {
         let before = self.counted;
         let counted = count(before, a, r);
         let unmatched = self.unmatched | unmatched(a, r);
-        let widest = larger(self.widest, layer_widest(r));
+        let widest = self.widest.max(layer_widest(r));
         Tally {
             counted,
             unmatched,

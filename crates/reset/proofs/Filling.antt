@@ -18,9 +18,6 @@ use Rattle.reset.specs.Resets.{start_of, starts_of}
 pub set_next : {A : Type 0} (xs d : List A) (n : ℕ) (v : A) → length xs ≡ n → n < length d → set (xs ++ drop n d) n v ≡ (xs ++ v ∷ []) ++ drop (n + 1) d
 set_next xs d n v e lt = rw (add-one, drop-cons d n v lt) (set_at xs (get_or d n v) (drop (suc n) d) v n e ∙ sym (append_snoc xs v (drop (suc n) d)))
 
-pub replicate_next : {A : Type 0} (n : ℕ) (v : A) → replicate n v ++ v ∷ [] ≡ replicate (n + 1) v
-replicate_next n v = replicate-append-replicate n 1 v
-
 -- all of them
 pub filled : {A : Type 0} (xs d : List A) (n : ℕ) → length d ≤ n → xs ++ drop n d ≡ xs
 filled xs d n le = rw (drop_of_length-le d {i = n} le) (append-nil xs)

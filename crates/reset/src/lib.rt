@@ -10,7 +10,7 @@ ghost use Rattle.description.specs.Records.{array_of};
 ghost use Rattle.description.specs.Refusals.{refusal_of};
 ghost use Rattle.description.specs.Sizes.{positions_of, total};
 ghost use Rattle.refusal.specs.Number.{number_of};
-ghost use Rattle.reset.specs.Resets.{Resets, silence_of, start_of, starts_of};
+ghost use Rattle.reset.specs.Resets.{Resets, start_of, starts_of};
 
 use description::check::check;
 use description::numbers::SLOTS;
@@ -18,16 +18,6 @@ use description::parts::Part;
 use description::read::part_at;
 use description::records::{ArrayRecord, read_array};
 use refusal::Refusal;
-
-// Every number +0.
-fn silence(histories: &mut [f32])
-    ensures { histories.new ≡ silence_of (length histories.old) }
-{
-    let n = histories.len();
-    for i in 0..n {
-        histories[i] = 0.0;
-    }
-}
 
 // One part's position, from place `at` on: ring length - 1. Answers the place of the next part.
 fn rewind_part(positions: &mut [u32], at: usize, part: Part) -> usize
@@ -75,7 +65,7 @@ pub fn reset(
     if positions.len() != sizes.positions {
         return Err(Refusal::BufferLength);
     }
-    silence(histories);
+    histories.fill(0.0);
     rewind(description, read_array(description), positions);
     Ok(())
 }

@@ -3,6 +3,7 @@ use native.Mathlib.Omega.{arith}
 use Rattle.refusal.specs.Number.{number_of}
 use Rattle.refusal.proofs.PassedOn.{passed_on}
 use Rattle.description.proofs.Sound.{length_is}
+use Rattle.reset.specs.Resets.{silence_of}
 use Rattle.reset.proofs.Resetting.{done, other_histories, other_positions, passed, positions_fit, refused}
 use Rattle.reset.proofs.reset.Goals as goal
 
@@ -35,6 +36,7 @@ rewind-requires c =
     record { description_value = passed args.description.now args.histories.now args.positions.now check.ensures c.in_ok-sizes.was if1.false if2.false; a_value = c.read_array.ensures; positions_len = positions_fit args.description.now args.histories.now args.positions.now check.ensures c.in_ok-sizes.was if1.false if2.false }
 
 pub returns : goal.returns
+unfolding silence_of
 returns c =
     let args = c.args in
-    done args.description.now args.histories.now args.positions.now c.check.ensures c.in_ok-sizes.was c.if-histories-sizes.false c.if-positions-sizes.false c.silence.ensures c.rewind.ensures
+    done args.description.now args.histories.now args.positions.now c.check.ensures c.in_ok-sizes.was c.if-histories-sizes.false c.if-positions-sizes.false (c.fill.ensures.after (λ y e. e)) c.rewind.ensures

@@ -14,4 +14,4 @@ overflow_add-result c =
 pub returns : goal.returns
 returns c =
     let args = c.args in
-    layer_in args.self args.a args.r c.count-counted.ensures c.unmatched.ensures (rw c.layer_widest.ensures at c.larger-widest.ensures)
+    layer_in args.self args.a args.r c.count-counted.ensures c.unmatched.ensures (rw c.layer_widest.ensures at c.max-widest.ensures)
