@@ -96,7 +96,7 @@ pub fn columns_within(
     }
 }
 
-// to[i] = to[i] + from[i], within one buffer.
+// to[i] = to[i] + from[i], within one buffer. By index: `zip` over the two places would take a split for each order, and be no shorter.
 pub fn add_to(work: &mut [f32], to: usize, from: usize, n: usize)
     requires { (to + n ≤ length work.old) × (from + n ≤ length work.old) × Apart to n from n }
     ensures { work.new ≡ fill to n
