@@ -1,5 +1,5 @@
 -- A refusal by its number: no two have the same, and none has 0.
-use Rattle.std.proofs.Common.{◌≡◌, refl, sym, ◌∙◌, ap, ℕ, ◌-◌, ◌<◌, List, [], ◌∷◌, get_or}
+use Rattle.std.proofs.Common.{◌≡◌, refl, sym, ◌∙◌, ap, ℕ, ◌-◌, ◌<◌, [], ◌∷◌, get_or}
 use native.Mathlib.Omega.{arith}
 use Rattle.refusal.specs.Number.{number}
 use Rattle.refusal.specs.declared.Refusal.{Refusal}

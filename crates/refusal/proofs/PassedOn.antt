@@ -1,5 +1,5 @@
 -- What `?` hands on, the refusal that it found; and where nothing is refused, that `unwrap` may be called.
-use Rattle.std.proofs.Common.{◌≡◌, ℕ, ap, sym}
+use Rattle.std.proofs.Common.{◌≡◌, ap}
 use native.Mathlib.Omega.{arith}
 use Rattle.std.specs.Prelude.{Result, Ok, Err, IsOk, IsErr, IsErrAnd}
 use Rattle.refusal.specs.declared.Refusal.{Refusal}

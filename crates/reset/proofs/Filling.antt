@@ -6,7 +6,7 @@ use Prim.Native.Nat.{ℕ, suc, ◌+◌, ◌≤◌, ◌<◌}
 use native.Mathlib.Nat.{add-zero}
 use native.Mathlib.Numerals.{add-one}
 use native.Mathlib.Omega.{arith}
-use lib.ListN.{drop, get_or, length, length-append, replicate, replicate-append-replicate, set, take, drop_of_length-le}
+use lib.ListN.{drop, get_or, length, length-append, set, take, drop_of_length-le}
 use lib.Seq.{append_snoc, drop-cons, set_at, sets, take_all, take-suc}
 use Rattle.description.specs.Sizes.{positions_of, total}
 use Rattle.description.proofs.Sound.{within}

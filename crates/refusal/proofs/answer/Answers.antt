@@ -1,6 +1,4 @@
 -- An answer's number, by its two cases.
-use Rattle.std.proofs.Common.{rules}
-use Rattle.refusal.specs.Number.{number_of}
 use Rattle.refusal.proofs.answer.Goals as goal
 
 pub returns-in-Ok : goal.returns-in-Ok

@@ -1,6 +1,5 @@
 -- `reset` meets its contract: each way out by what its test told (Resetting).
 use native.Mathlib.Omega.{arith}
-use Rattle.refusal.specs.Number.{number_of}
 use Rattle.refusal.proofs.PassedOn.{passed_on}
 use Rattle.description.proofs.Sound.{length_is}
 use Rattle.reset.specs.Resets.{silence_of}
