@@ -1,17 +1,19 @@
 -- Laws of written bytes: runs end to end, and each kind of text one part more. Assumes nothing.
 use mathlib.Core.Path.{◌≡◌, refl, sym, ◌∙◌, ap}
 use mathlib.Core.List.{List, [], ◌∷◌, ◌++◌, append_assoc, append-nil}
+use mathlib.Core.Bool.{Bool}
 use mathlib.Core.Logic.{⊎_elim}
-use Prim.Native.Nat.{ℕ, zero, suc, ◌+◌, ◌-◌, ◌*◌, ◌/◌, ◌%◌, ◌^◌, ◌≤◌, ◌<◌}
+use Prim.Native.Nat.{ℕ, zero, suc, ◌+◌, ◌*◌, ◌/◌, ◌%◌, ◌≤◌, ◌<◌}
 use native.Mathlib.Nat.{add-zero, add-suc, suc-add}
-use native.Mathlib.Numerals.{add-one}
 use native.Mathlib.Omega.{arith}
-use lib.Dec.{ltb}
+use lib.Dec.{eqb, eqb→eq, ltb}
 use lib.Ieee.{Float, binary32, to_bits}
 use lib.ListN.{length, length-append, set}
 use lib.Seq.{sets}
 use borrow.Author.Tests.{lt-ltb, le-ltb}
-use Rattle.lists.specs.Tab.{at, fill, tab}
+use Rattle.std.proofs.Common.{slice_index_or}
+use Rattle.lists.specs.Tab.{tab}
+use Rattle.lists.proofs.Every.{at_every}
 use Rattle.lists.proofs.Tab.{length-tab}
 use Rattle.lists.proofs.Nums.{le_or_lt}
 use Rattle.lines.specs.Text.{column_of, decimal_by, decimal_of, hex_digit, hex_of, spaced_of, values_text}
@@ -21,20 +23,19 @@ pub sets_append : {A : Type 0} (l : List A) (i : ℕ) (xs ys : List A) → sets 
 sets_append l i [] ys = rw (add-zero i)
 sets_append l i (x ∷ xs) ys = rw (add-suc i (length xs), sym (suc-add i (length xs))) (sets_append (set l i x) (suc i) xs ys)
 
--- the same, as the calls leave it
-pub sets_next : {A : Type 0} (out : List A) (i : ℕ) (xs ys : List A) {mid last : List A} {j : ℕ} → mid ≡ sets out i xs → j ≡ i + length xs → last ≡ sets mid j ys
-    → last ≡ sets out i (xs ++ ys)
-sets_next out i xs ys e q h = h ∙ rw (q, e) (sets_append out i xs ys)
+-- a rule's bytes, the last one apart
+pub tab_more : {A : Type 0} (n : ℕ) (f : ℕ → A) → tab (suc n) f ≡ tab n f ++ f n ∷ []
+unfolding tab
+tab_more zero f = refl
+tab_more (suc n) f = ap (λ l. f 0 ∷ l) (tab_more n (λ i. f (suc i)))
 
--- places filled by a rule are a run
-pub fill_sets : {A : Type 0} (a n : ℕ) (f : ℕ → A) (old : List A) → fill a n f old ≡ sets old a (tab n f)
-unfolding fill tab
-fill_sets a zero f old = refl
-fill_sets a (suc n) f old = first a n f old ∙ fill_sets (suc a) n (λ i. f (suc i)) (set old a (f 0))
+-- the digits by their table
+pub digit_at : (d : ℕ) → d < 16 → slice_index_or (48 ∷ 49 ∷ 50 ∷ 51 ∷ 52 ∷ 53 ∷ 54 ∷ 55 ∷ 56 ∷ 57 ∷ 97 ∷ 98 ∷ 99 ∷ 100 ∷ 101 ∷ 102 ∷ []) d 0 ≡ hex_digit d
+unfolding hex_digit
+digit_at d h = eqb→eq _ _ (at_every same 16 tt d h)
   where
-    first : {A : Type 0} (a n : ℕ) (f : ℕ → A) (old : List A) → set (fill a n f old) (a + n) (f n) ≡ fill (suc a) n (λ i. f (suc i)) (set old a (f 0))
-    first a zero f old = rw (add-zero a)
-    first a (suc n) f old = rw (first a n f old, add-suc a n, sym (suc-add a n))
+    same : ℕ → Bool
+    same d = eqb (slice_index_or (48 ∷ 49 ∷ 50 ∷ 51 ∷ 52 ∷ 53 ∷ 54 ∷ 55 ∷ 56 ∷ 57 ∷ 97 ∷ 98 ∷ 99 ∷ 100 ∷ 101 ∷ 102 ∷ []) d 0) (hex_digit d)
 
 -- ---- decimal
 small : (k n : ℕ) → n < 10 → decimal_by k (ltb n 10) n ≡ (48 + n) ∷ []
@@ -72,13 +73,6 @@ length_small n h = ap length (decimal_small n h)
 pub length_more : (n : ℕ) → 10 ≤ n → length (decimal_of n) ≡ length (decimal_of (n / 10)) + 1
 length_more n h = ap length (decimal_more n h) ∙ length-append (decimal_of (n / 10)) ((48 + n % 10) ∷ [])
 
-pub put_small : (out : List ℕ) (at n : ℕ) → n < 10 → set out at (48 + n) ≡ sets out at (decimal_of n)
-put_small out at n h = rw (decimal_small n h)
-
-pub put_more : (out : List ℕ) (at n : ℕ) {mid : List ℕ} {e : ℕ} → 10 ≤ n → mid ≡ sets out at (decimal_of (n / 10)) → e ≡ at + length (decimal_of (n / 10))
-    → set mid e (48 + n % 10) ≡ sets out at (decimal_of n)
-put_more out at n h m q = rw (decimal_more n h) (sets_next out at (decimal_of (n / 10)) ((48 + n % 10) ∷ []) m q refl)
-
 -- a number of at most ten places
 longer : (b k : ℕ) → ((n : ℕ) → n < b → length (decimal_of n) ≤ k) → 1 ≤ k → (n : ℕ) → n < 10 * b → length (decimal_of n) ≤ k + 1
 longer b k f h n lt = ⊎_elim (λ le. omega (arith, length_more n le, f (n / 10) (omega arith))) (λ l. omega (arith, length_small n l)) (le_or_lt 10 n)
@@ -93,17 +87,9 @@ pub length_hex : (v : ℕ) → length (hex_of v) ≡ 8
 unfolding hex_of
 length_hex v = length-tab 8 _
 
-pub hex_done : (out old : List ℕ) (p v : ℕ) → out ≡ fill p 8 (λ i. hex_digit (v / 2 ^ (28 - 4 * i) % 16)) old → out ≡ sets old p (hex_of v)
-unfolding hex_of
-hex_done out old p v e = e ∙ fill_sets p 8 _ old
-
 pub length_spaced : (x : Float) → length (spaced_of x) ≡ 9
 unfolding spaced_of
 length_spaced x = ap suc (length_hex (to_bits binary32 x))
-
-pub spaced_done : (out : List ℕ) (p : ℕ) (x : Float) {v : ℕ} {last : List ℕ} → v ≡ to_bits binary32 x → last ≡ sets (set out p 32) (p + 1) (hex_of v) → last ≡ sets out p (spaced_of x)
-unfolding spaced_of
-spaced_done out p x e h = h ∙ rw (e, add-one p)
 
 pub length_values : (xs : List Float) → length (values_text xs) ≡ 9 * length xs
 unfolding values_text
@@ -115,7 +101,7 @@ unfolding values_text
 values_append [] ys = refl
 values_append (x ∷ xs) ys = rw (values_append xs ys) (sym (append_assoc (spaced_of x) (values_text xs) (values_text ys)))
 
-values_more : (n : ℕ) (f : ℕ → Float) → values_text (tab (suc n) f) ≡ values_text (tab n f) ++ spaced_of (f n)
+pub values_more : (n : ℕ) (f : ℕ → Float) → values_text (tab (suc n) f) ≡ values_text (tab n f) ++ spaced_of (f n)
 unfolding values_text tab
 values_more zero f = append-nil (spaced_of (f 0))
 values_more (suc n) f = rw (values_more n (λ i. f (suc i))) (sym (append_assoc (spaced_of (f 0)) (values_text (tab n (λ i. f (suc i)))) (spaced_of (f (suc n)))))
@@ -123,14 +109,3 @@ values_more (suc n) f = rw (values_more n (λ i. f (suc i))) (sym (append_assoc 
 pub length_column : (n t w : ℕ) (l : List Float) → length (column_of n t w l) ≡ w
 unfolding column_of
 length_column n t w l = length-tab w _
-
-pub column_none : (out : List ℕ) (p n t : ℕ) (l : List Float) → out ≡ sets out p (values_text (column_of n t 0 l))
-unfolding column_of values_text tab
-column_none out p n t l = refl
-
-pub column_more : (old : List ℕ) (p n t c : ℕ) (l : List Float) {out last : List ℕ} → out ≡ sets old p (values_text (column_of n t c l))
-    → last ≡ sets out (p + 9 * c) (spaced_of (at l (c * n + t))) → last ≡ sets old p (values_text (column_of n t (c + 1) l))
-unfolding column_of
-column_more old p n t c l e h =
-    rw (add-one c, values_more c (λ c. at l (c * n + t)))
-    (sets_next old p (values_text (tab c (λ c. at l (c * n + t)))) (spaced_of (at l (c * n + t))) e (omega (arith, length_values (tab c (λ c. at l (c * n + t))), length-tab c (λ c. at l (c * n + t)))) h)

@@ -1,84 +1,110 @@
 // The lines that the program `ampline` prints, written into a lent buffer: a block's columns, and the last line. Document 01, 'The program'.
+// `write!` promises its text only where it answers `Ok`, and here there is no other answer: so the digits are put by hand.
 #![tactic(auto)]
 
-ghost use Rattle.std.specs.Prelude.{◌≡◌, ◌+◌, ◌*◌, ◌<◌, ◌≤◌, length};
-ghost use Rattle.std.proofs.lemmas.List.Edits.{sets};
+ghost use Rattle.std.specs.Prelude.{◌≡◌, ◌+◌, ◌*◌, ◌<◌, ◌≤◌, [], ◌∷◌, length};
 ghost use Rattle.lines.specs.Text.{column_of, decimal_of, hex_digit, hex_of, last_of, line_of, lines_of, named_of, outputs_of, spaced_of, values_text};
-ghost use Rattle.lines.specs.Lines.{Printed, Room};
+ghost use Rattle.lines.specs.Lines.{Blank, Printed, Room, Wrote};
 
 fn hex_digit(d: u32) -> u8
     requires { d < 16 }
     ensures { result ≡ hex_digit d }
 {
-    if d < 10 { 48 + d as u8 } else { 87 + d as u8 }
+    b"0123456789abcdef"[d as usize]
 }
 
-// 8 digits from place `at` on.
-fn put_hex(out: &mut [u8], at: usize, bits: u32)
-    requires { at + 8 ≤ length out.old }
-    ensures { out.new ≡ sets out.old at (hex_of bits) }
-{
-    for i in 0..8 {
-        out[at + i] = hex_digit((bits >> (28 - 4 * i)) % 16);
-    }
-}
-
-// A space and a number's bits.
-fn put_spaced(out: &mut [u8], at: usize, x: f32)
-    requires { at + 9 ≤ length out.old }
-    ensures { out.new ≡ sets out.old at (spaced_of x) }
-{
-    out[at] = b' ';
-    put_hex(out, at + 1, single::to_bits(x));
-}
-
-// Column t of a planar block of n columns and w rows.
-fn put_column(out: &mut [u8], at: usize, planar: &[f32], t: usize, n: usize, w: usize)
-    requires { (at + 9 * w ≤ length out.old) × (t < n) × (w * n ≤ length planar.now) }
-    ensures { out.new ≡ sets out.old at (values_text (column_of n t w planar.now)) }
-{
-    for c in 0..w {
-        put_spaced(out, at + 9 * c, planar[c * n + t]);
-    }
-}
-
-// A number in decimal; answers the place after it.
-fn put_decimal(out: &mut [u8], at: usize, n: usize) -> usize
-    requires { at + length (decimal_of n) ≤ length out.old }
-    ensures { (result ≡ at + length (decimal_of n)) × (out.new ≡ sets out.old at (decimal_of n)) }
-{
-    if n < 10 {
-        out[at] = 48 + n as u8;
-        return at + 1;
-    }
-    let end = put_decimal(out, at, n / 10);
-    out[end] = 48 + (n % 10) as u8;
-    end + 1
-}
-
-// The line of column t; answers the place after it.
-fn put_line(
-    out: &mut [u8],
+// A lent buffer, and the place in it where the next text goes.
+#[derive(Drop)]
+struct Page<'a> {
+    bytes: &'a mut [u8],
     at: usize,
-    index: usize,
-    head: &[f32],
-    heads: usize,
-    array: &[f32],
-    arrays: usize,
-    t: usize,
-    n: usize,
-) -> usize
-    requires room { Room (length head.now) heads (length array.now) arrays n }
-    requires t_lt_n { (t < n) × (index < 4294967296) × (at + 9 * (heads + arrays) + 11 ≤ length out.old) }
-    ensures { Printed out.old at (line_of index (outputs_of n heads head.now arrays array.now t)) result out.new }
-{
-    let values = put_decimal(out, at, index);
-    put_column(out, values, head, t, n, heads);
-    let rest = values + 9 * heads;
-    put_column(out, rest, array, t, n, arrays);
-    let end = rest + 9 * arrays;
-    out[end] = b'\n';
-    end + 1
+}
+
+impl Page<'_> {
+    fn put(&mut self, byte: u8)
+        requires { Blank self.old 1 }
+        ensures same_reference { self.new.bytes.ghost_name ≡ self.old.bytes.ghost_name }
+        ensures wrote { Wrote self.old (byte ∷ []) self.new }
+    {
+        self.bytes[self.at] = byte;
+        self.at += 1;
+    }
+
+    fn put_text(&mut self, text: &[u8])
+        requires { Blank self.old (length text.now) }
+        ensures same_reference { self.new.bytes.ghost_name ≡ self.old.bytes.ghost_name }
+        ensures wrote { Wrote self.old text.now self.new }
+    {
+        let end = self.at + text.len();
+        self.bytes[self.at..end].copy_from_slice(text);
+        self.at = end;
+    }
+
+    // 32 bits as 8 digits.
+    fn put_hex(&mut self, bits: u32)
+        requires { Blank self.old 8 }
+        ensures same_reference { self.new.bytes.ghost_name ≡ self.old.bytes.ghost_name }
+        ensures wrote { Wrote self.old (hex_of bits) self.new }
+    {
+        for i in 0..8u32 {
+            self.put(hex_digit((bits >> (28 - 4 * i)) % 16));
+        }
+    }
+
+    // A space and a number's bits.
+    fn put_number(&mut self, x: f32)
+        requires { Blank self.old 9 }
+        ensures same_reference { self.new.bytes.ghost_name ≡ self.old.bytes.ghost_name }
+        ensures wrote { Wrote self.old (spaced_of x) self.new }
+    {
+        self.put(b' ');
+        self.put_hex(single::to_bits(x));
+    }
+
+    // Column t of a planar block of n columns and w rows.
+    fn put_column(&mut self, planar: &[f32], t: usize, n: usize, w: usize)
+        requires { Blank self.old (9 * w) × (t < n) × (w * n ≤ length planar.now) }
+        ensures same_reference { self.new.bytes.ghost_name ≡ self.old.bytes.ghost_name }
+        ensures wrote { Wrote self.old (values_text (column_of n t w planar.now)) self.new }
+    {
+        for c in 0..w {
+            self.put_number(planar[c * n + t]);
+        }
+    }
+
+    // A number in decimal.
+    fn put_decimal(&mut self, n: usize)
+        requires { Blank self.old (length (decimal_of n)) }
+        ensures same_reference { self.new.bytes.ghost_name ≡ self.old.bytes.ghost_name }
+        ensures wrote { Wrote self.old (decimal_of n) self.new }
+    {
+        if 10 <= n {
+            self.put_decimal(n / 10);
+        }
+        self.put(b'0' + (n % 10) as u8);
+    }
+
+    // The line of column t.
+    fn put_line(
+        &mut self,
+        index: usize,
+        head: &[f32],
+        heads: usize,
+        array: &[f32],
+        arrays: usize,
+        t: usize,
+        n: usize,
+    )
+        requires room { Room (length head.now) heads (length array.now) arrays n }
+        requires t_lt_n { (t < n) × (index < 4294967296) × Blank self.old (9 * (heads + arrays) + 11) }
+        ensures same_reference { self.new.bytes.ghost_name ≡ self.old.bytes.ghost_name }
+        ensures wrote { Wrote self.old (line_of index (outputs_of n heads head.now arrays array.now t)) self.new }
+    {
+        self.put_decimal(index);
+        self.put_column(head, t, n, heads);
+        self.put_column(array, t, n, arrays);
+        self.put(b'\n');
+    }
 }
 
 // The lines of a planar block of n columns, from the start of the buffer; answers how many bytes they are.
@@ -95,22 +121,11 @@ pub fn put_lines(
     requires n_bound { (first + n ≤ 4294967296) × (n * (9 * (heads + arrays) + 11) ≤ length out.old) }
     ensures { Printed out.old 0 (lines_of first (outputs_of n heads head.now arrays array.now) n) result out.new }
 {
-    let mut at = 0;
+    let mut page = Page { bytes: out, at: 0 };
     for t in 0..n {
-        at = put_line(out, at, first + t, head, heads, array, arrays, t, n);
+        page.put_line(first + t, head, heads, array, arrays, t, n);
     }
-    at
-}
-
-// Text, from the start of the buffer.
-fn put_text(out: &mut [u8], text: &[u8])
-    requires { length text.now ≤ length out.old }
-    ensures { out.new ≡ sets out.old 0 text.now }
-{
-    let n = text.len();
-    for i in 0..n {
-        out[i] = text[i];
-    }
+    page.at
 }
 
 // A line of some text and a number, from the start of the buffer; answers how many bytes it is.
@@ -118,11 +133,11 @@ fn put_named(out: &mut [u8], text: &[u8], n: usize) -> usize
     requires { (n < 4294967296) × (length text.now + 11 ≤ length out.old) }
     ensures { Printed out.old 0 (named_of text.now n) result out.new }
 {
-    let at = text.len();
-    put_text(out, text);
-    let end = put_decimal(out, at, n);
-    out[end] = b'\n';
-    end + 1
+    let mut page = Page { bytes: out, at: 0 };
+    page.put_text(text);
+    page.put_decimal(n);
+    page.put(b'\n');
+    page.at
 }
 
 // The last line, from the start of the buffer; answers how many bytes it is.

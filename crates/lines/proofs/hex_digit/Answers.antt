@@ -1,12 +1,6 @@
--- The two ranges of digits.
-use borrow.Author.Tests.{lt-ltb, le-ltb}
-use Rattle.lines.specs.Text.{hex_digit}
+-- The table's entry.
+use Rattle.lines.proofs.Writing.{digit_at}
 use Rattle.lines.proofs.hex_digit.Goals as goal
 
-pub returns-then-d-lt10 : goal.returns-then-d-lt10
-unfolding hex_digit
-returns-then-d-lt10 c = rw (lt-ltb _ _ c.if-d-lt10.true)
-
-pub returns-else-d-lt10 : goal.returns-else-d-lt10
-unfolding hex_digit
-returns-else-d-lt10 c = rw (le-ltb _ _ c.if-d-lt10.false)
+pub returns : goal.returns
+returns c = digit_at c.args.d c.requires

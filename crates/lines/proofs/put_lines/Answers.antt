@@ -1,25 +1,20 @@
 -- The loop's invariant: the lines of the columns passed, each within its share of the buffer.
-use mathlib.Core.Path.{◌≡◌, refl}
+use mathlib.Core.Path.{refl}
 use Prim.Native.Nat.{◌+◌, ◌*◌}
 use native.Mathlib.Omega.{arith}
 use borrow.Author.Rules.{rules}
 use Rattle.lists.proofs.Nums.{row_end, row_next}
-use Rattle.lines.proofs.Lining.{line_fits, lines_none, lines_more}
+use Rattle.lines.proofs.Lining.{as_long, line_fits, lines_none, lines_more}
 use Rattle.lines.proofs.put_lines.Goals as goal
 
 pub loop-t-init : goal.loop-t-init
 loop-t-init c = (search rules, refl, omega arith, lines_none _ _ _)
 
-pub overflow_add-first : goal.overflow_add-first
-overflow_add-first c = record { fits = omega (arith, c.requires.n_bound.0, c.loop-t-test.true) }
-
-pub put_line-at-requires : goal.put_line-at-requires
-put_line-at-requires c = record { room = c.requires.room; t_lt_n = (c.loop-t-test.true, omega (arith, c.requires.n_bound.0, c.loop-t-test.true), omega (arith, row_end c.loop-t.t c.args.n (9 * (c.args.heads + c.args.arrays) + 11) c.loop-t-test.true, c.loop-t.invariant.1, c.loop-t.invariant.2, c.requires.n_bound.1)) }
+pub put_line-requires-clause-t_lt_n : goal.put_line-requires-clause-t_lt_n
+put_line-requires-clause-t_lt_n c =
+    (c.loop-t-test.true, omega (arith, c.requires.n_bound.0, c.loop-t-test.true), omega (arith, row_end c.loop-t.t c.args.n (9 * (c.args.heads + c.args.arrays) + 11) c.loop-t-test.true, as_long c.loop-t.invariant.3, c.loop-t.invariant.2, c.requires.n_bound.1))
 
 pub loop-t-preserved : goal.loop-t-preserved
 loop-t-preserved c =
     let fits = line_fits c.args.n c.args.heads c.args.head.now c.args.arrays c.args.array.now c.loop-t.t (c.args.first + c.loop-t.t) (omega (arith, c.requires.n_bound.0, c.loop-t-test.true)) in
-    (omega (arith, c.loop-t-test.true), omega (arith, c.put_line-at.auto.out, c.loop-t.invariant.1), omega (arith, fits, c.put_line-at.ensures.past, c.loop-t.invariant.2, row_next c.loop-t.t (9 * (c.args.heads + c.args.arrays) + 11)), lines_more _ _ _ _ c.loop-t.invariant.1 c.loop-t.invariant.3 c.put_line-at.ensures)
-
-pub returns : goal.returns
-returns c = let e : c.loop-t.t ≡ c.args.n = omega arith in rw e at c.loop-t.invariant.3
+    (omega (arith, c.loop-t-test.true), search rules, omega (arith, fits, c.put_line.ensures.wrote.past, c.loop-t.invariant.2, row_next c.loop-t.t (9 * (c.args.heads + c.args.arrays) + 11)), lines_more _ _ _ c.loop-t.invariant.3 c.put_line.ensures.wrote)

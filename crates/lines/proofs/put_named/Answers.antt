@@ -1,17 +1,20 @@
--- Text, number, newline, end to end (Lining).
+-- Text, number, newline, one after the other (Lining).
 use native.Mathlib.Omega.{arith}
+use borrow.Author.Rules.{rules}
+use lib.ListN.{length}
+use Prim.Native.Nat.{◌+◌}
 use Rattle.lines.proofs.Writing.{ten_places}
-use Rattle.lines.proofs.Lining.{named_done}
+use Rattle.lines.proofs.Lining.{named_done, printed_as, room_left}
 use Rattle.lines.proofs.put_named.Goals as goal
 
-pub put_decimal-end-requires : goal.put_decimal-end-requires
-put_decimal-end-requires c = omega (arith, ten_places c.args.n (omega (arith, c.requires.0)), c.requires.1, c.put_text.auto.out)
+pub put_decimal-requires : goal.put_decimal-requires
+put_decimal-requires c =
+    omega (arith, room_left {p = 0} (length c.args.text.now + 11) 11 (omega (arith, c.requires.1)) c.put_text.ensures.wrote (omega arith), ten_places c.args.n (omega (arith, c.requires.0)))
 
-pub bounds-out-end : goal.bounds-out-end
-bounds-out-end c = omega (arith, ten_places c.args.n (omega (arith, c.requires.0)), c.requires.1, c.put_text.auto.out, c.put_decimal-end.auto.out, c.put_decimal-end.ensures.0)
-
-pub overflow_add-result : goal.overflow_add-result
-overflow_add-result c = record { fits = omega (arith, ten_places c.args.n (omega (arith, c.requires.0)), c.requires.1, c.put_decimal-end.ensures.0, c.well_formed) }
+pub put-requires : goal.put-requires
+put-requires c =
+    let after_text = room_left {p = 0} (length c.args.text.now + 11) 11 (omega (arith, c.requires.1)) c.put_text.ensures.wrote (omega arith) in
+    room_left 11 1 after_text c.put_decimal.ensures.wrote (omega (arith, ten_places c.args.n (omega (arith, c.requires.0))))
 
 pub returns : goal.returns
-returns c = named_done c.args.out.now c.args.text.now c.args.n c.requires.0 c.requires.1 c.put_text.ensures c.put_decimal-end.ensures.0 c.put_decimal-end.ensures.1
+returns c = printed_as (named_done _ _ c.put_text.ensures.wrote c.put_decimal.ensures.wrote c.put.ensures.wrote) (search rules)
