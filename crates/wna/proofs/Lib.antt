@@ -4,5 +4,4 @@ pub mod Streaming
 pub mod Planar
 pub mod Order
 mod Taken
-mod Unpacking
 mod Heading

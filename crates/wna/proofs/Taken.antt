@@ -4,7 +4,6 @@ use mathlib.Core.Path.{◌≡◌, refl, sym, ap, subst}
 use mathlib.Core.Bool.{true, false}
 use mathlib.Core.List.{List}
 use Prim.Native.Nat.{ℕ, ◌*◌, ◌≤◌, ◌<◌}
-use native.Mathlib.Nat.{mul-le-mul}
 use lib.Ieee.{Float}
 use lib.ListN.{length}
 use borrow.Author.Tests.{eq-eqb, le-ltb, lt-ltb}
@@ -19,9 +18,6 @@ use Rattle.description.proofs.Facts.{refused_only, sound_only}
 use Rattle.description.proofs.Sound.{widest_most}
 use Rattle.wna.specs.Opening.{Described, Weighed, description_refusal, no_room, short_for}
 use Rattle.wna.specs.Words.{floats_of, words_of}
-
-pub product_fits : (w b : ℕ) → w ≤ 64 → b ≤ 1024 → w * b ≤ 65536
-product_fits w b hw hb = mul-le-mul hw hb
 
 pub short : (n : ℕ) (f : List ℕ) → length f < 4 * n → short_for n f ≡ true
 unfolding short_for

@@ -38,20 +38,20 @@ pub fn read_header(bytes: &[u8]) -> Result<Header, Refusal>
     if half(bytes, 3) != 1 {
         return Err(Refusal::File);
     }
-    let block = half(bytes, 5);
+    let block = half(bytes, 5) as usize;
     if block == 0 {
         return Err(Refusal::File);
     }
     if LARGEST_BLOCK < block {
         return Err(Refusal::File);
     }
-    let count = word(bytes, 7);
+    let count = word(bytes, 7) as usize;
     if MOST_NUMBERS < count {
         return Err(Refusal::Room);
     }
     Ok(Header {
         block,
         count,
-        columns: word(bytes, 11) as u32,
+        columns: word(bytes, 11),
     })
 }

@@ -20,13 +20,7 @@ fn no_room(s: Sizes, block: usize) -> bool
     requires { (s.widest ≤ 64) × (block ≤ 1024) }
     ensures { result ≡ no_room s block }
 {
-    if MOST_HELD < s.weights {
-        return true;
-    }
-    if MOST_HELD < s.histories {
-        return true;
-    }
-    MOST_PLANAR < s.widest * block
+    MOST_HELD < s.weights || MOST_HELD < s.histories || MOST_PLANAR < s.widest * block
 }
 
 // The description's numbers, checked; the block is the header's.

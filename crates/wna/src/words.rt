@@ -1,30 +1,21 @@
 // Numbers from bytes, little-endian. Document 01, 'The program'.
-ghost use Rattle.std.specs.Prelude.{◌≡◌, ◌+◌, ◌*◌, ◌<◌, ◌≤◌, length};
+ghost use Rattle.std.specs.Prelude.{◌≡◌, ◌+◌, ◌*◌, ◌<◌, ◌≤◌, ℕ, get_or, length};
 ghost use Rattle.wna.specs.Words.{float_at, floats_of, half_at, word_at, words_of};
 
-// A byte as a number.
-fn wide(b: u8) -> usize
-    ensures { (result ≡ b) × (result < 256) }
-{
-    b as usize
-}
-
 // 16 bits at place `at`.
-pub fn half(bytes: &[u8], at: usize) -> usize
+pub fn half(bytes: &[u8], at: usize) -> u16
     requires { at + 2 ≤ length bytes.now }
-    ensures { (result ≡ half_at bytes.now at) × (result < 65536) }
+    ensures { result ≡ half_at bytes.now at }
 {
-    wide(bytes[at]) + 256 * wide(bytes[at + 1])
+    u16::from_le_bytes([bytes[at], bytes[at + 1]])
 }
 
 // 32 bits at place `at`.
-pub fn word(bytes: &[u8], at: usize) -> usize
+pub fn word(bytes: &[u8], at: usize) -> u32
     requires { at + 4 ≤ length bytes.now }
-    ensures { (result ≡ word_at bytes.now at) × (result < 4294967296) }
+    ensures { result ≡ word_at bytes.now at }
 {
-    let low = half(bytes, at);
-    let high = half(bytes, at + 2);
-    low + 65536 * high
+    u32::from_le_bytes([bytes[at], bytes[at + 1], bytes[at + 2], bytes[at + 3]])
 }
 
 // A float at place `at`, by its bits.
@@ -32,7 +23,17 @@ pub fn float(bytes: &[u8], at: usize) -> f32
     requires { at + 4 ≤ length bytes.now }
     ensures { result ≡ float_at bytes.now at }
 {
-    single::from_bits(word(bytes, at) as u32)
+    single::from_bits(word(bytes, at))
+}
+
+// Each place of the slice by a rule for its index.
+pub(crate) fn fill_by<T: Copy, F: Fn(usize) -> T>(out: &mut [T], rule: F)
+    requires { (i : ℕ) → i < length out.old → F.pre rule i }
+    ensures { (d : T) (i : ℕ) → i < length out.old → F.post rule i (get_or out.new i d) }
+{
+    for i in 0..out.len() {
+        out[i] = rule(i);
+    }
 }
 
 // Every number of the slice, from the first byte on.
@@ -40,10 +41,7 @@ pub fn unpack_numbers(numbers: &mut [u32], bytes: &[u8])
     requires { 4 * length numbers.old ≤ length bytes.now }
     ensures { numbers.new ≡ words_of (length numbers.old) bytes.now }
 {
-    let n = numbers.len();
-    for i in 0..n {
-        numbers[i] = word(bytes, 4 * i) as u32;
-    }
+    fill_by(numbers, |i| word(bytes, 4 * i));
 }
 
 // Every float of the slice, from the first byte on.
@@ -51,8 +49,5 @@ pub fn unpack_floats(floats: &mut [f32], bytes: &[u8])
     requires { 4 * length floats.old ≤ length bytes.now }
     ensures { floats.new ≡ floats_of (length floats.old) bytes.now }
 {
-    let n = floats.len();
-    for i in 0..n {
-        floats[i] = float(bytes, 4 * i);
-    }
+    fill_by(floats, |i| float(bytes, 4 * i));
 }

@@ -1,21 +1,17 @@
--- The three tests in their order; the product fits, since W is at most 64 and a block at most 1024.
+-- The three tests in their order.
+use mathlib.Core.Path.{◌∙◌}
+use mathlib.Core.Logic.{⊎_elim}
 use native.Mathlib.Omega.{arith}
 use borrow.Author.Tests.{lt-ltb, le-ltb}
 use Rattle.wna.specs.Opening.{no_room}
-use Rattle.wna.proofs.Taken.{product_fits}
 use Rattle.wna.proofs.opening.no_room.Goals as goal
-
-pub returns-then-s-gt-MOST_HELD : goal.returns-then-s-gt-MOST_HELD
-unfolding no_room
-returns-then-s-gt-MOST_HELD c = rw (lt-ltb _ _ c.if-s-gt-MOST_HELD.true)
+use Rattle.wna.proofs.opening.no_room.Goals.{then-s-gt-MOST_HELD, else-s-gt-MOST_HELD}
 
 pub returns-then-s-gt-MOST_HELD-2 : goal.returns-then-s-gt-MOST_HELD-2
 unfolding no_room
-returns-then-s-gt-MOST_HELD-2 c = rw (le-ltb _ _ c.if-s-gt-MOST_HELD.false, lt-ltb _ _ c.if-s-gt-MOST_HELD-2.true)
+returns-then-s-gt-MOST_HELD-2 c =
+    elim c.if-s-gt-MOST_HELD.branch [ then-s-gt-MOST_HELD w ↦ w.t-4-is ∙ rw (lt-ltb _ _ w.if-s-gt-MOST_HELD.true) | else-s-gt-MOST_HELD w ↦ w.t-4-is ∙ ⊎_elim (λ a. absurd (omega (arith, a, w.if-s-gt-MOST_HELD.false))) (λ b. rw (le-ltb _ _ b.0, lt-ltb _ _ b.1)) c.if-s-gt-MOST_HELD-2.either ]
 
-pub overflow_mul-result : goal.overflow_mul-result
-overflow_mul-result c = record { fits = omega (arith, product_fits c.args.s.widest c.args.block c.requires.0 c.requires.1) }
-
-pub returns : goal.returns
+pub returns-else-s-gt-MOST_HELD-2 : goal.returns-else-s-gt-MOST_HELD-2
 unfolding no_room
-returns c = rw (le-ltb _ _ c.if-s-gt-MOST_HELD.false, le-ltb _ _ c.if-s-gt-MOST_HELD-2.false)
+returns-else-s-gt-MOST_HELD-2 c = rw (le-ltb _ _ c.if-s-gt-MOST_HELD-2.false.0, le-ltb _ _ c.if-s-gt-MOST_HELD-2.false.1)

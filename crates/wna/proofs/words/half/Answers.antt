@@ -1,8 +1,8 @@
--- Two bytes, each below 256.
+-- Two bytes.
 use native.Mathlib.Omega.{arith}
 use Rattle.wna.specs.Words.{half_at}
 use Rattle.wna.proofs.words.half.Goals as goal
 
 pub returns : goal.returns
 unfolding half_at
-returns c = (rw (c.wide.ensures.0, c.wide-2.ensures.0), omega (arith, c.wide.ensures.1, c.wide-2.ensures.1))
+returns c = omega (arith, c.from_le_bytes.ensures)

@@ -1,19 +1,11 @@
--- `unpack_floats` meets its contract. The loop's invariant: the places passed hold their floats.
-use mathlib.Core.Path.{sym}
-use native.Mathlib.Omega.{arith}
-use lib.Ieee.{nan}
+-- Each place holds its float.
+use Prim.Native.Nat.{◌*◌}
 use borrow.Author.Rules.{rules}
-use Rattle.lists.proofs.Fill.{fill_none, fill_step}
-use Rattle.wna.specs.Words.{floats_of}
-use Rattle.wna.proofs.Unpacking.{filled}
+use lib.Ieee.{nan}
+use Rattle.lists.proofs.Tab.{is_tab}
+use Rattle.wna.specs.Words.{float_at, floats_of}
 use Rattle.wna.proofs.words.unpack_floats.Goals as goal
-
-pub loop-i-init : goal.loop-i-init
-loop-i-init c = (search rules, search rules, search rules, search rules, sym (fill_none _ _ _))
-
-pub loop-i-preserved : goal.loop-i-preserved
-loop-i-preserved c = (search rules, search rules, search rules, search rules, fill_step _ _ _ _ _ c.loop-i.invariant.4 c.float.ensures)
 
 pub returns : goal.returns
 unfolding floats_of
-returns c = filled nan _ _ _ _ c.loop-i.invariant.4 (omega arith)
+returns c = is_tab nan _ _ (λ i. float_at c.args.bytes.now (4 * i)) c.fill_by.auto.out (λ i lt. let h = c.fill_by.ensures nan i lt in search rules)

@@ -1,8 +1,10 @@
--- `word` meets its contract. Two halves.
+-- Four bytes.
+use mathlib.Core.Path.{◌≡◌}
+use Prim.Native.Nat.{◌+◌}
 use native.Mathlib.Omega.{arith}
-use Rattle.wna.specs.Words.{word_at}
+use Rattle.wna.specs.Words.{half_at, word_at}
 use Rattle.wna.proofs.words.word.Goals as goal
 
 pub returns : goal.returns
-unfolding word_at
-returns c = (rw (c.half-low.ensures.0, c.half-high.ensures.0), omega arith)
+unfolding half_at word_at
+returns c = let last : c.args.at + 2 + 1 ≡ c.args.at + 3 = omega arith in rw last (omega (arith, c.from_le_bytes.ensures))
