@@ -1,40 +1,40 @@
 // The limits that are run and not proved: document 01, 'Bench table' (run only).
-ghost use Rattle.std.specs.Prelude.{◌≡◌, ◌+◌, ◌*◌, ◌<◌, ◌≤◌, length};
+ghost use Rattle.std.specs.Prelude.{◌≤◌};
 
 use crate::cases::{case_a, largest};
-use refusal::answer;
+use refusal::Refusal;
 
 // A block of n columns of case A's array.
-pub fn columns(n: usize) -> u32
+pub fn columns(n: usize) -> Result<(), Refusal>
     requires { n ≤ 1025 }
 {
-    let d = case_a();
     let weights = [0.5f32; 8];
     let mut histories = [0.0f32; 7];
     let mut positions = [0; 5];
-    let input = [1.0f32; 1025];
-    let condition = [1.0f32; 1025];
-    let head_in = [1.0f32; 1025];
+    let ones = [1.0f32; 1025];
     let mut head_out = [0.0f32; 1025];
     let mut array_out = [0.0f32; 1025];
     let mut scratch = [0.0f32; 16400];
-    answer(calls::block(
-        &d,
+    calls::block(
+        &case_a(),
         &weights,
         &mut histories,
         &mut positions,
-        &input[..n],
-        &condition[..n],
-        &head_in[..n],
+        &ones[..n],
+        &ones[..n],
+        &ones[..n],
         &mut head_out[..n],
         &mut array_out[..n],
         &mut scratch,
         n,
-    ))
+    )
 }
 
-// 64 columns of the largest layer.
-fn block(histories: &mut [f32], positions: &mut [u32], head_out: &mut [f32]) -> u32 {
+// As many as hear the tap 2048 columns back.
+const BLOCKS: usize = 33;
+
+// Blocks of 64 columns of the largest layer from a reset, with the last block's outputs.
+fn from_reset(histories: &mut [f32], positions: &mut [u32], head_out: &mut [f32]) -> Result<(), Refusal> {
     let d = largest();
     let weights = [0.0625f32; 16512];
     let input = [4.0f32; 64];
@@ -42,36 +42,27 @@ fn block(histories: &mut [f32], positions: &mut [u32], head_out: &mut [f32]) -> 
     let head_in = [0.0f32; 2048];
     let mut array_out = [0.0f32; 2048];
     let mut scratch = [0.0f32; 32768];
-    answer(calls::block(
-        &d,
-        &weights,
-        histories,
-        positions,
-        &input,
-        &condition,
-        &head_in,
-        head_out,
-        &mut array_out,
-        &mut scratch,
-        64,
-    ))
-}
-
-// As many as hear the tap 2048 columns back.
-const BLOCKS: usize = 33;
-
-// The blocks from a reset: the answers together, and the last block's outputs.
-fn from_reset(histories: &mut [f32], positions: &mut [u32], head_out: &mut [f32]) -> u32 {
-    let d = largest();
-    let mut answers = answer(reset::reset(&d, histories, positions));
-    for i in 0..BLOCKS {
-        answers = answers | block(histories, positions, head_out);
+    reset::reset(&d, histories, positions)?;
+    for _ in 0..BLOCKS {
+        calls::block(
+            &d,
+            &weights,
+            histories,
+            positions,
+            &input,
+            &condition,
+            &head_in,
+            head_out,
+            &mut array_out,
+            &mut scratch,
+            64,
+        )?;
     }
-    answers
+    Ok(())
 }
 
 // The same with room for the histories.
-pub fn blocks(head_out: &mut [f32]) -> u32 {
+pub fn blocks(head_out: &mut [f32]) -> Result<(), Refusal> {
     let mut histories = [1.0f32; 983106];
     let mut positions = [9; 4];
     from_reset(&mut histories, &mut positions, head_out)

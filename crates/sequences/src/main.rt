@@ -2,45 +2,25 @@
 // calls among them, which have to give the same bytes. Document 01, 'Bench table' (run only) and 'What the contracts have to say'.
 #![tactic(auto)]
 
-ghost use Rattle.std.specs.Prelude.{◌≡◌, ◌+◌, ◌*◌, ◌<◌, ◌≤◌, length};
+ghost use Rattle.std.specs.Prelude.{◌<◌, length};
 
 mod cases;
 mod largest;
-mod pieces;
 mod plans;
 mod played;
 mod signal;
 
-use crate::pieces::run;
-use crate::signal::{row, same, same_places};
+use crate::played::run;
 use description::answers::Sizes;
 use refusal::answer;
 use std::io;
 use std::io::Write;
 
-fn print<W: Write>(writer: &mut W, text: &[u8], n: usize) -> io::Result<()> {
-    writer.write_all(text)?;
-    write!(writer, "{n}")
-}
-
-fn wide(x: u32) -> usize {
-    x as usize
-}
-
-fn end<W: Write>(writer: &mut W) -> io::Result<()> {
-    writer.write_all(b"\n")
-}
-
-// A number's bits.
-fn print_bits<W: Write>(writer: &mut W, x: f32) -> io::Result<()> {
-    let bits = single::to_bits(x);
-    write!(writer, " {bits:08x}")
-}
-
+// The numbers' bits.
 fn print_all<W: Write>(writer: &mut W, numbers: &[f32]) -> io::Result<()> {
-    let n = numbers.len();
-    for i in 0..n {
-        print_bits(writer, numbers[i])?;
+    for x in numbers {
+        let bits = single::to_bits(*x);
+        write!(writer, " {bits:08x}")?;
     }
     Ok(())
 }
@@ -57,8 +37,8 @@ fn print_case_a<W: Write>(writer: &mut W) -> io::Result<()> {
     let mut head_out = [0.0f32; 4];
     let mut array_out = [0.0f32; 4];
     let mut scratch = [0.0f32; 64];
-    let silent = answer(reset::reset(&d, &mut histories, &mut positions));
-    let played = answer(calls::block(
+    let reset = reset::reset(&d, &mut histories, &mut positions);
+    let block = calls::block(
         &d,
         &weights,
         &mut histories,
@@ -70,119 +50,72 @@ fn print_case_a<W: Write>(writer: &mut W) -> io::Result<()> {
         &mut array_out,
         &mut scratch,
         4,
-    ));
-    print(writer, b"case A: ", wide(silent | played))?;
+    );
+    write!(writer, "case A: {}", answer(reset.and(block)))?;
     print_all(writer, &head_out)?;
     print_all(writer, &array_out)?;
-    print(writer, b"\nits histories: ", wide(positions[1]))?;
+    write!(writer, "\nits histories: {}", positions[1])?;
     print_all(writer, &histories)?;
-    end(writer)
+    writeln!(writer)
 }
 
-fn print_sizes<W: Write>(writer: &mut W, s: Sizes) -> io::Result<()> {
-    print(writer, b"sizes ", s.weights)?;
-    print(writer, b" ", s.histories)?;
-    print(writer, b" ", s.positions)?;
-    print(writer, b" ", s.widest)?;
-    print(writer, b" ", s.depth)
-}
-
-fn print_answer<W: Write>(writer: &mut W, text: &[u8], d: &[u32]) -> io::Result<()> {
-    writer.write_all(text)?;
+fn print_answer<W: Write>(writer: &mut W, d: &[u32]) -> io::Result<()> {
     match description::sizes(d) {
-        Ok(s) => print_sizes(writer, s)?,
-        Err(refusal) => print(writer, b"refused ", u32::from(refusal) as usize)?,
+        Ok(Sizes {
+            weights,
+            histories,
+            positions,
+            widest,
+            depth,
+        }) => writeln!(writer, "sizes {weights} {histories} {positions} {widest} {depth}"),
+        Err(refusal) => writeln!(writer, "refused {}", u32::from(refusal)),
     }
-    end(writer)
 }
 
 // The largest layer, two of them, and a width of 33.
 fn print_largest<W: Write>(writer: &mut W) -> io::Result<()> {
-    let one = cases::largest();
-    let two = cases::twice_largest();
     let mut too_wide = cases::largest();
     too_wide[2] = 33;
-    print_answer(writer, b"32 channels, kernel 16, dilation 2048: ", &one)?;
-    print_answer(writer, b"two such layers: ", &two)?;
-    print_answer(writer, b"33 channels: ", &too_wide)?;
+    write!(writer, "32 channels, kernel 16, dilation 2048: ")?;
+    print_answer(writer, &cases::largest())?;
+    write!(writer, "two such layers: ")?;
+    print_answer(writer, &cases::twice_largest())?;
+    write!(writer, "33 channels: ")?;
+    print_answer(writer, &too_wide)?;
     let mut head_out = [0.0f32; 64];
-    let answer = largest::blocks(&mut head_out);
-    print(writer, b"2112 columns: ", wide(answer))?;
-    print_bits(writer, head_out[0])?;
-    print_bits(writer, head_out[63])?;
-    end(writer)
+    let number = answer(largest::blocks(&mut head_out));
+    write!(writer, "2112 columns: {number}")?;
+    print_all(writer, &[head_out[0], head_out[63]])?;
+    writeln!(writer)
 }
 
 // The columns one by one, and in the pieces of a cut.
-fn compare<W: Write>(writer: &mut W, text: &[u8], cut: &[usize], planned: bool) -> io::Result<()>
+fn compare<W: Write>(writer: &mut W, cut: &[usize], with_plans: bool) -> io::Result<()>
     requires { 0 < length cut.now }
 {
-    let d = cases::two_layers();
-    let mut weights = [0.0f32; 130];
-    row(&mut weights, 0, 0, 9, 130);
-    let mut histories = [0.0f32; 48];
-    let mut positions = [0; 13];
-    let mut out = [0.0f32; 256];
-    let mut histories_cut = [0.0f32; 48];
-    let mut positions_cut = [0; 13];
-    let mut out_cut = [0.0f32; 256];
-    let single = [1usize; 1];
-    let a = run(
-        &d,
-        &weights,
-        &mut histories,
-        &mut positions,
-        &mut out,
-        &single,
-        false,
-    );
-    let b = run(
-        &d,
-        &weights,
-        &mut histories_cut,
-        &mut positions_cut,
-        &mut out_cut,
-        cut,
-        planned,
-    );
-    let alike = a
-        & b
-        & same(&out, &out_cut)
-        & same(&histories, &histories_cut)
-        & same_places(&positions, &positions_cut);
-    writer.write_all(text)?;
-    if alike {
-        writer.write_all(b": same\n")
-    } else {
-        writer.write_all(b": different\n")
-    }
+    let alike = match (run(&[1], false), run(cut, with_plans)) {
+        (Some(one), Some(other)) => one.same(&other),
+        _ => false,
+    };
+    writeln!(writer, "{}", if alike { ": same" } else { ": different" })
 }
 
 fn main(rt: HostRuntime) -> io::Result<()> {
     let mut writer = rt.stdout();
     print_case_a(&mut writer)?;
-    print(&mut writer, b"1024 columns: ", wide(largest::columns(1024)))?;
-    print(
-        &mut writer,
-        b"\n1025 columns: ",
-        wide(largest::columns(1025)),
-    )?;
-    end(&mut writer)?;
+    writeln!(writer, "1024 columns: {}", answer(largest::columns(1024)))?;
+    writeln!(writer, "1025 columns: {}", answer(largest::columns(1025)))?;
     print_largest(&mut writer)?;
-    compare(&mut writer, b"cut 64", &[64usize], false)?;
-    compare(&mut writer, b"cut 1,5,58", &[1usize, 5, 58], false)?;
-    compare(
-        &mut writer,
-        b"cut 1,5,58 with plans",
-        &[1usize, 5, 58],
-        true,
-    )?;
-    compare(
-        &mut writer,
-        b"cut 3,1,16,2 with plans",
-        &[3usize, 1, 16, 2],
-        true,
-    )?;
-    compare(&mut writer, b"cut 64 with plans", &[64usize], true)?;
-    compare(&mut writer, b"columns with plans", &[1usize], true)
+    write!(writer, "cut 64")?;
+    compare(&mut writer, &[64], false)?;
+    write!(writer, "cut 1,5,58")?;
+    compare(&mut writer, &[1, 5, 58], false)?;
+    write!(writer, "cut 1,5,58 with plans")?;
+    compare(&mut writer, &[1, 5, 58], true)?;
+    write!(writer, "cut 3,1,16,2 with plans")?;
+    compare(&mut writer, &[3, 1, 16, 2], true)?;
+    write!(writer, "cut 64 with plans")?;
+    compare(&mut writer, &[64], true)?;
+    write!(writer, "columns with plans")?;
+    compare(&mut writer, &[1], true)
 }

@@ -1,178 +1,207 @@
-// One call on blocks lent to it: a single column, a block or a planned block, each after a call that has to be refused.
-ghost use Rattle.std.specs.Prelude.{◌<◌, ◌≤◌};
+// The two layers that are played, in pieces: by single columns, blocks and planned blocks, each after a call that has to be refused.
+ghost use Rattle.std.specs.Prelude.{◌≡◌, ◌+◌, ◌*◌, ◌<◌, ◌≤◌, length};
 
-use crate::plans::{PLAIN, turn_count, write_plan};
-use refusal::answer;
+use crate::cases::two_layers;
+use crate::plans::Plan;
+use crate::signal::{COLUMNS, keep, row, same, two_rows};
+use refusal::Refusal;
 
-// What is answered where a call that has to be refused was not, or with another number.
-const WRONG: u32 = 99;
-
-// A call with the description for a plan, which is refused, and the call with its plan.
-fn planned(
-    d: &[u32],
-    weights: &[f32],
-    histories: &mut [f32],
-    positions: &mut [u32],
-    input: &[f32],
-    condition: &[f32],
-    head_in: &[f32],
-    head_out: &mut [f32],
-    array_out: &mut [f32],
-    plan: &[u32],
-    n: usize,
-) -> u32 {
-    let mut scratch = [0.0f32; 4096];
-    let refused = answer(calls::planned(
-        d,
-        weights,
-        histories,
-        positions,
-        input,
-        condition,
-        head_in,
-        head_out,
-        array_out,
-        &mut scratch,
-        n,
-        d,
-    ));
-    if refused != 9 {
-        return WRONG;
-    }
-    answer(calls::planned(
-        d,
-        weights,
-        histories,
-        positions,
-        input,
-        condition,
-        head_in,
-        head_out,
-        array_out,
-        &mut scratch,
-        n,
-        plan,
-    ))
+// The layers, what they keep from call to call, and what has come out of them.
+#[derive(Drop)]
+pub struct Play {
+    description: [u32; 56],
+    weights: [f32; 130],
+    histories: [f32; 48],
+    positions: [u32; 13],
+    head: [f32; 128],
+    array: [f32; 128],
 }
 
-// The same with the plan written first.
-fn by_plan(
-    d: &[u32],
-    weights: &[f32],
-    histories: &mut [f32],
-    positions: &mut [u32],
-    input: &[f32],
-    condition: &[f32],
-    head_in: &[f32],
-    head_out: &mut [f32],
-    array_out: &mut [f32],
+// A call's n columns: two channels of each kind, planar.
+#[derive(Drop)]
+struct Piece {
     n: usize,
-    kind: usize,
-) -> u32
-    requires { (0 < n) × (n ≤ 64) }
-{
-    let mut plan = [0; 512];
-    let turns = turn_count(n, kind);
-    let numbers = 2 * turns;
-    write_plan(&mut plan, turns, n, kind);
-    planned(
-        d,
-        weights,
-        histories,
-        positions,
-        input,
-        condition,
-        head_in,
-        head_out,
-        array_out,
-        &plan[..numbers],
-        n,
-    )
+    input: [f32; 128],
+    condition: [f32; 128],
+    head_in: [f32; 128],
+    head_out: [f32; 128],
+    array_out: [f32; 128],
 }
 
-// A block of one column more than is lent, which is refused, and the block.
-fn plain(
-    d: &[u32],
-    weights: &[f32],
-    histories: &mut [f32],
-    positions: &mut [u32],
-    input: &[f32],
-    condition: &[f32],
-    head_in: &[f32],
-    head_out: &mut [f32],
-    array_out: &mut [f32],
-    n: usize,
-) -> u32
-    requires { n ≤ 64 }
-{
-    let mut scratch = [0.0f32; 4096];
-    let refused = answer(calls::block(
-        d,
-        weights,
-        histories,
-        positions,
-        input,
-        condition,
-        head_in,
-        head_out,
-        array_out,
-        &mut scratch,
-        n + 1,
-    ));
-    if refused != 7 {
-        return WRONG;
+impl Piece {
+    // The n columns from `column` on.
+    fn of_signal(column: usize, n: usize) -> Piece
+        requires { column + n ≤ 64 }
+        ensures { result.n ≡ n }
+    {
+        let mut piece = Piece {
+            n,
+            input: [0.0; 128],
+            condition: [0.0; 128],
+            head_in: [0.0; 128],
+            head_out: [0.0; 128],
+            array_out: [0.0; 128],
+        };
+        two_rows(&mut piece.input[..2 * n], column, 0);
+        two_rows(&mut piece.condition[..2 * n], column, 2);
+        two_rows(&mut piece.head_in[..2 * n], column, 4);
+        piece
     }
-    if n == 1 {
-        return answer(calls::column(
-            d,
-            weights,
-            histories,
-            positions,
-            input,
-            condition,
-            head_in,
-            head_out,
-            array_out,
+}
+
+impl Play {
+    fn from_reset() -> Result<Play, Refusal> {
+        let mut play = Play {
+            description: two_layers(),
+            weights: [0.0; 130],
+            histories: [0.0; 48],
+            positions: [0; 13],
+            head: [0.0; 128],
+            array: [0.0; 128],
+        };
+        row(&mut play.weights, 0, 9);
+        reset::reset(&play.description, &mut play.histories, &mut play.positions)?;
+        Ok(play)
+    }
+
+    // The piece by a call that names so many columns.
+    fn block(&mut self, piece: &mut Piece, named: usize) -> Result<(), Refusal>
+        requires { piece.old.n ≤ 64 }
+        ensures { piece.new.n ≡ piece.old.n }
+    {
+        let mut scratch = [0.0; 4096];
+        let len = 2 * piece.n;
+        let head_out = &mut piece.head_out[..];
+        let array_out = &mut piece.array_out[..];
+        calls::block(
+            &self.description,
+            &self.weights,
+            &mut self.histories,
+            &mut self.positions,
+            &piece.input[..len],
+            &piece.condition[..len],
+            &piece.head_in[..len],
+            &mut head_out[..len],
+            &mut array_out[..len],
             &mut scratch,
-        ));
+            named,
+        )
     }
-    answer(calls::block(
-        d,
-        weights,
-        histories,
-        positions,
-        input,
-        condition,
-        head_in,
-        head_out,
-        array_out,
-        &mut scratch,
-        n,
-    ))
+
+    fn column(&mut self, piece: &mut Piece) -> Result<(), Refusal>
+        requires { piece.old.n ≤ 64 }
+        ensures { piece.new.n ≡ piece.old.n }
+    {
+        let mut scratch = [0.0; 4096];
+        let len = 2 * piece.n;
+        let head_out = &mut piece.head_out[..];
+        let array_out = &mut piece.array_out[..];
+        calls::column(
+            &self.description,
+            &self.weights,
+            &mut self.histories,
+            &mut self.positions,
+            &piece.input[..len],
+            &piece.condition[..len],
+            &piece.head_in[..len],
+            &mut head_out[..len],
+            &mut array_out[..len],
+            &mut scratch,
+        )
+    }
+
+    fn planned(&mut self, piece: &mut Piece, plan: &[u32]) -> Result<(), Refusal>
+        requires { piece.old.n ≤ 64 }
+        ensures { piece.new.n ≡ piece.old.n }
+    {
+        let mut scratch = [0.0; 4096];
+        let len = 2 * piece.n;
+        let head_out = &mut piece.head_out[..];
+        let array_out = &mut piece.array_out[..];
+        calls::planned(
+            &self.description,
+            &self.weights,
+            &mut self.histories,
+            &mut self.positions,
+            &piece.input[..len],
+            &piece.condition[..len],
+            &piece.head_in[..len],
+            &mut head_out[..len],
+            &mut array_out[..len],
+            &mut scratch,
+            piece.n,
+            plan,
+        )
+    }
+
+    // A block of one column more than is lent, which is refused, and the block; whether both were answered so.
+    fn plain(&mut self, piece: &mut Piece) -> bool
+        requires { piece.old.n ≤ 64 }
+        ensures { piece.new.n ≡ piece.old.n }
+    {
+        let n = piece.n;
+        if self.block(piece, n + 1) != Err(Refusal::BufferLength) {
+            return false;
+        }
+        if n == 1 {
+            return self.column(piece).is_ok();
+        }
+        self.block(piece, n).is_ok()
+    }
+
+    // A call with the description for a plan, which is refused, and the call with its plan.
+    fn by_plan(&mut self, piece: &mut Piece, plan: Plan) -> bool
+        requires { (0 < piece.old.n) × (piece.old.n ≤ 64) }
+        ensures { piece.new.n ≡ piece.old.n }
+    {
+        let mut turns = [0; 512];
+        let len = 2 * plan.turns(piece.n);
+        plan.write(&mut turns[..len], piece.n);
+        if self.planned(piece, &two_layers()) != Err(Refusal::Plan) {
+            return false;
+        }
+        self.planned(piece, &turns[..len]).is_ok()
+    }
+
+    // The n columns from `column` on; whether each call was answered as it has to be.
+    fn hear(&mut self, column: usize, n: usize, plan: Option<Plan>) -> bool
+        requires { (0 < n) × (column + n ≤ 64) }
+    {
+        let mut piece = Piece::of_signal(column, n);
+        let heard = match plan {
+            Some(plan) => self.by_plan(&mut piece, plan),
+            None => self.plain(&mut piece),
+        };
+        keep(&mut self.head, &piece.head_out[..2 * n], column);
+        keep(&mut self.array, &piece.array_out[..2 * n], column);
+        heard
+    }
+
+    // Whether what came out and what is kept have the same bits.
+    pub fn same(&self, other: &Play) -> bool {
+        same(&self.head, &other.head)
+            && same(&self.array, &other.array)
+            && same(&self.histories, &other.histories)
+            && self.positions == other.positions
+    }
 }
 
-// By a kind of plan, or plainly.
-pub fn any(
-    d: &[u32],
-    weights: &[f32],
-    histories: &mut [f32],
-    positions: &mut [u32],
-    input: &[f32],
-    condition: &[f32],
-    head_in: &[f32],
-    head_out: &mut [f32],
-    array_out: &mut [f32],
-    n: usize,
-    kind: usize,
-) -> u32
-    requires { (0 < n) × (n ≤ 64) }
+// All columns from a reset in pieces of the cut's sizes, over and over; with plans, every fourth piece is plain. `None` where a call was not answered as
+// it has to be.
+pub fn run(cut: &[usize], with_plans: bool) -> Option<Play>
+    requires { 0 < length cut.now }
 {
-    if kind == PLAIN {
-        return plain(
-            d, weights, histories, positions, input, condition, head_in, head_out, array_out, n,
-        );
+    let mut play = Play::from_reset().ok()?;
+    let mut column: usize = 0;
+    let mut i: usize = 0;
+    while column < COLUMNS {
+        let n = cut[i % cut.len()].clamp(1, COLUMNS - column);
+        let plan = if with_plans { Plan::of_piece(i) } else { None };
+        if !play.hear(column, n, plan) {
+            return None;
+        }
+        column += n;
+        i += 1;
     }
-    by_plan(
-        d, weights, histories, positions, input, condition, head_in, head_out, array_out, n, kind,
-    )
+    Some(play)
 }
