@@ -30,11 +30,12 @@ pub fn columns(n: usize) -> Result<(), Refusal>
     )
 }
 
-// As many as hear the tap 2048 columns back.
-const BLOCKS: usize = 33;
-
-// Blocks of 64 columns of the largest layer from a reset, with the last block's outputs.
-fn from_reset(histories: &mut [f32], positions: &mut [u32], head_out: &mut [f32]) -> Result<(), Refusal> {
+// 64 columns of the largest layer.
+fn block(
+    histories: &mut [f32],
+    positions: &mut [u32],
+    head_out: &mut [f32],
+) -> Result<(), Refusal> {
     let d = largest();
     let weights = [0.0625f32; 16512];
     let input = [4.0f32; 64];
@@ -42,21 +43,33 @@ fn from_reset(histories: &mut [f32], positions: &mut [u32], head_out: &mut [f32]
     let head_in = [0.0f32; 2048];
     let mut array_out = [0.0f32; 2048];
     let mut scratch = [0.0f32; 32768];
-    reset::reset(&d, histories, positions)?;
+    calls::block(
+        &d,
+        &weights,
+        histories,
+        positions,
+        &input,
+        &condition,
+        &head_in,
+        head_out,
+        &mut array_out,
+        &mut scratch,
+        64,
+    )
+}
+
+// As many as hear the tap 2048 columns back.
+const BLOCKS: usize = 33;
+
+// The blocks from a reset, with the last block's outputs.
+fn from_reset(
+    histories: &mut [f32],
+    positions: &mut [u32],
+    head_out: &mut [f32],
+) -> Result<(), Refusal> {
+    reset::reset(&largest(), histories, positions)?;
     for _ in 0..BLOCKS {
-        calls::block(
-            &d,
-            &weights,
-            histories,
-            positions,
-            &input,
-            &condition,
-            &head_in,
-            head_out,
-            &mut array_out,
-            &mut scratch,
-            64,
-        )?;
+        block(histories, positions, head_out)?;
     }
     Ok(())
 }

@@ -61,13 +61,18 @@ fn print_case_a<W: Write>(writer: &mut W) -> io::Result<()> {
 
 fn print_answer<W: Write>(writer: &mut W, d: &[u32]) -> io::Result<()> {
     match description::sizes(d) {
-        Ok(Sizes {
-            weights,
-            histories,
-            positions,
-            widest,
-            depth,
-        }) => writeln!(writer, "sizes {weights} {histories} {positions} {widest} {depth}"),
+        Ok(
+            Sizes {
+                weights,
+                histories,
+                positions,
+                widest,
+                depth,
+            },
+        ) => writeln!(
+            writer,
+            "sizes {weights} {histories} {positions} {widest} {depth}"
+        ),
         Err(refusal) => writeln!(writer, "refused {}", u32::from(refusal)),
     }
 }

@@ -42,5 +42,8 @@ pub fn keep(all: &mut [f32], block: &[f32], column: usize)
 
 // Whether the numbers have the same bits.
 pub fn same(a: &[f32], b: &[f32]) -> bool {
-    a.len() == b.len() && a.iter().zip(b).all(|(x, y)| single::to_bits(*x) == single::to_bits(*y))
+    a.len() == b.len()
+        && a.iter()
+            .zip(b)
+            .all(|(x, y)| single::to_bits(*x) == single::to_bits(*y))
 }
