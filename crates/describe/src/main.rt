@@ -3,7 +3,6 @@
 // and, by an independent check, what has to be printed.
 #![tactic(auto)]
 
-use description::answers::Sizes;
 use reading::read_full;
 use refusal::answer;
 use std::io;
@@ -12,19 +11,8 @@ use wna::words::{unpack_numbers, word};
 
 fn print_sizes<W: Write>(writer: &mut W, d: &[u32]) -> io::Result<()> {
     match description::sizes(d) {
-        Ok(
-            Sizes {
-                weights,
-                histories,
-                positions,
-                widest,
-                depth,
-            },
-        ) => write!(
-            writer,
-            "sizes {weights} {histories} {positions} {widest} {depth}"
-        ),
-        Err(refusal) => write!(writer, "refused {}", u32::from(refusal)),
+        Ok(sizes) => write!(writer, "sizes {sizes}"),
+        Err(refusal) => write!(writer, "refused {refusal}"),
     }
 }
 

@@ -4,6 +4,7 @@ pub mod Limits
 pub mod Numbers
 pub mod Part
 pub mod Parts
+pub mod Printed
 pub mod Ranges
 pub mod Records
 pub mod Refusals

@@ -1,7 +1,8 @@
 // Why something is refused, with the numbers of document 01, 'Refusal numbers', in the order in which the reasons are looked for.
 #![tactic(auto)]
 
-ghost use Rattle.std.specs.Prelude.{◌≡◌};
+ghost use Rattle.std.specs.Prelude.{◌≡◌, Some};
+ghost use Rattle.std.specs.Fmt.{decimal};
 ghost use Rattle.refusal.specs.Number.{number, number_of};
 
 use std::error::Error;
@@ -9,16 +10,27 @@ use std::fmt;
 
 #[derive(Clone, Copy, Debug, PartialEq, Eq)]
 pub enum Refusal {
+    /// The description is shorter than 8, or not 8 + 24 L long.
     DescriptionLength = 1,
+    /// A number of it breaks its range or its zero rule.
     Range = 2,
+    /// Groups do not divide.
     Groups = 3,
+    /// The widths of a layer do not match.
     Widths = 4,
+    /// Too many weights, or too long histories.
     TooLarge = 5,
+    /// More columns than a block may have.
     BlockSize = 6,
+    /// A buffer has another length than it should.
     BufferLength = 7,
+    /// A position is not below its ring length.
     Position = 8,
+    /// The plan breaks its rule.
     Plan = 9,
+    /// The program: a bad or short file, or bytes left over.
     File = 10,
+    /// The program: no room.
     Room = 11,
 }
 
@@ -40,21 +52,13 @@ pub fn answer(outcome: Result<(), Refusal>) -> u32
     }
 }
 
+// Its number, as the programs print it.
 impl fmt::Display for Refusal {
+    ghost output = { λ refusal. Some (decimal (number refusal)) };
+
     fn fmt<W: fmt::Write>(&self, f: &mut fmt::Formatter<W>) -> fmt::Result {
-        f.write_str(match self {
-            Refusal::DescriptionLength => "the description's length is not that of its layers",
-            Refusal::Range => "a number of the description breaks its range or a zero rule",
-            Refusal::Groups => "the groups of a convolution do not divide its sides",
-            Refusal::Widths => "the widths of a layer do not match",
-            Refusal::TooLarge => "there are too many weights or too long histories",
-            Refusal::BlockSize => "a block has too many columns",
-            Refusal::BufferLength => "a buffer has another length than it should",
-            Refusal::Position => "a position is not below its ring length",
-            Refusal::Plan => "the plan breaks its rule",
-            Refusal::File => "the file is cut, or of another form",
-            Refusal::Room => "the program has no room for this model",
-        })
+        let number = u32::from(*self);
+        write!(f, "{number}")
     }
 }
 

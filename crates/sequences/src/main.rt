@@ -11,7 +11,6 @@ mod played;
 mod signal;
 
 use crate::played::run;
-use description::answers::Sizes;
 use refusal::answer;
 use std::io;
 use std::io::Write;
@@ -61,19 +60,8 @@ fn print_case_a<W: Write>(writer: &mut W) -> io::Result<()> {
 
 fn print_answer<W: Write>(writer: &mut W, d: &[u32]) -> io::Result<()> {
     match description::sizes(d) {
-        Ok(
-            Sizes {
-                weights,
-                histories,
-                positions,
-                widest,
-                depth,
-            },
-        ) => writeln!(
-            writer,
-            "sizes {weights} {histories} {positions} {widest} {depth}"
-        ),
-        Err(refusal) => writeln!(writer, "refused {}", u32::from(refusal)),
+        Ok(sizes) => writeln!(writer, "sizes {sizes}"),
+        Err(refusal) => writeln!(writer, "refused {refusal}"),
     }
 }
 
