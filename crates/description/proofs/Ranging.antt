@@ -48,7 +48,7 @@ both (suc w) zero e h = let z : ◌≡◌ {A = ℕ} 0 1 = cc (ne_eqb (suc w) 0 (
 
 -- the groups of the sites, from place `at` on
 sites_le : (d : List ℕ) (at : ℕ) → ((i : ℕ) → i < 8 → get_or d (at + (15 + i)) 0 ≤ 32) → (i : ℕ) → site_groups (sites_of d (at + 15)) i ≤ 32
-unfolding site_groups sites_of
+unfolding sites_of
 sites_le d at h zero = rw (add-zero 15) at (h 0 (lit< tt))
 sites_le d at h (suc zero) = rw add_assoc (h 1 (lit< tt))
 sites_le d at h (suc (suc zero)) = rw add_assoc (h 2 (lit< tt))

@@ -1,6 +1,6 @@
 -- For the functions that read records: a record is the one of the definitions when its fields are. Assumes nothing.
 use mathlib.Core.Path.{◌≡◌, ap}
-use mathlib.Core.List.{List}
+use mathlib.Core.List.{List, [], ◌∷◌}
 use Prim.Native.Nat.{ℕ, ◌+◌, ◌≤◌, ◌<◌}
 use native.Mathlib.Nat.{add-zero}
 use native.Mathlib.Omega.{arith}
@@ -12,7 +12,6 @@ use Rattle.description.specs.Numbers.{array_number, number, record_at}
 use Rattle.description.specs.Records.{activation_of, array_of, layer_of, mode_of, sites_of}
 use Rattle.description.specs.declared.records.ArrayRecord.{ArrayRecord}
 use Rattle.description.specs.declared.records.LayerRecord.{LayerRecord}
-use Rattle.description.specs.declared.records.Sites.{Sites}
 
 pub array_is : (d : List ℕ) {n0 n1 n2 n3 n4 n5 n6 n7 : ℕ}
     → n0 ≡ array_number d 0
@@ -36,11 +35,11 @@ pub sites_is : (d : List ℕ) (at : ℕ) {n0 n1 n2 n3 n4 n5 n6 n7 : ℕ}
     → n5 ≡ get_or d (at + 5) 0
     → n6 ≡ get_or d (at + 6) 0
     → n7 ≡ get_or d (at + 7) 0
-    → ◌≡◌ {A = Sites} (record { conv_pre = n0; conv_post = n1; input_mixin_pre = n2; input_mixin_post = n3; activation_pre = n4; activation_post = n5; layer1x1_post = n6; head1x1_post = n7 }) (sites_of d at)
+    → n0 ∷ n1 ∷ n2 ∷ n3 ∷ n4 ∷ n5 ∷ n6 ∷ n7 ∷ [] ≡ sites_of d at
 unfolding sites_of
 sites_is d at e0 e1 e2 e3 e4 e5 e6 e7 = rw (e0, e1, e2, e3, e4, e5, e6, e7)
 
-pub layer_is : (d : List ℕ) (l : ℕ) {n0 n1 n2 n3 n4 n10 n11 n12 n13 n14 n23 : ℕ} {m : Mode} {p s : Activation} {t : Sites}
+pub layer_is : (d : List ℕ) (l : ℕ) {n0 n1 n2 n3 n4 n10 n11 n12 n13 n14 n23 : ℕ} {m : Mode} {p s : Activation} {t : List ℕ}
     → n0 ≡ get_or d (record_at l) 0
     → n1 ≡ number d l 1
     → n2 ≡ number d l 2
@@ -60,7 +59,7 @@ pub layer_is : (d : List ℕ) (l : ℕ) {n0 n1 n2 n3 n4 n10 n11 n12 n13 n14 n23 
 unfolding layer_of
 layer_is d l e0 e1 e2 e3 e4 e10 e11 e12 e13 e14 e23 em ep es et =
     rw (add-zero (record_at l), e0, e1, e2, e3, e4, e10, e11, e12, e13, e14, e23, em, ep, es)
-    (ap (λ (t : Sites). record { bottleneck = get_or d (record_at l) 0; kernel = number d l 1; dilation = number d l 2; conv_groups = number d l 3; mixin_groups = number d l 4; mode = mode_of (number d l 5); primary = activation_of (number d l 6) (number d l 7); secondary = activation_of (number d l 8) (number d l 9); layer1x1_groups = number d l 10; layer1x1_bias = eqb (number d l 11) 1; head1x1_width = number d l 12; head1x1_groups = number d l 13; head1x1_bias = eqb (number d l 14) 1; sites = t; shift_bits = number d l 23 }) et)
+    (ap (λ (t : List ℕ). record { bottleneck = get_or d (record_at l) 0; kernel = number d l 1; dilation = number d l 2; conv_groups = number d l 3; mixin_groups = number d l 4; mode = mode_of (number d l 5); primary = activation_of (number d l 6) (number d l 7); secondary = activation_of (number d l 8) (number d l 9); layer1x1_groups = number d l 10; layer1x1_bias = eqb (number d l 11) 1; head1x1_width = number d l 12; head1x1_groups = number d l 13; head1x1_bias = eqb (number d l 14) 1; sites = t; shift_bits = number d l 23 }) et)
 
 -- not 0: past 0
 pub past_zero : {i : ℕ} → (i ≡ 0 → ⊥) → 1 ≤ i

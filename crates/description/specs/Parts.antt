@@ -7,7 +7,6 @@ use Rattle.description.specs.ZeroRules.{bit}
 use Rattle.description.specs.Records.{array_of, layer_of}
 use Rattle.description.specs.declared.records.ArrayRecord.{ArrayRecord}
 use Rattle.description.specs.declared.records.LayerRecord.{LayerRecord}
-use Rattle.description.specs.declared.records.Sites.{Sites}
 use Rattle.description.specs.Part.{Part}
 
 -- mid = bottleneck in mode None, else twice that
@@ -22,21 +21,9 @@ unless0 n sh = cond (eqb n 0) None (Some sh)
 abbrev pub pointwise : ℕ → ℕ → ℕ → Bool → Shape
 pointwise ins outs groups biased = record { ins = ins; outs = outs; kernel = 1; dilation = 1; groups = groups; biased = biased }
 
--- groups of FiLM sites 0-7
-unfoldable pub site_groups : Sites → ℕ → ℕ
-site_groups s i =
-    get_or
-    (s.conv_pre
-    ∷ s.conv_post
-    ∷ s.input_mixin_pre
-    ∷ s.input_mixin_post
-    ∷ s.activation_pre
-    ∷ s.activation_post
-    ∷ s.layer1x1_post
-    ∷ s.head1x1_post
-    ∷ [])
-    i
-    0
+-- groups of FiLM site i
+abbrev pub site_groups : List ℕ → ℕ → ℕ
+site_groups s i = get_or s i 0
 
 module _ (a : ArrayRecord) where
   unfoldable pub rechannel_of : Part

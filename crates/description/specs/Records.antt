@@ -9,7 +9,6 @@ use Rattle.gating.specs.declared.Mode.TheVariants.{None, Gated, Blended}
 use Rattle.description.specs.Numbers.{array_number, number, record_at}
 use Rattle.description.specs.declared.records.ArrayRecord.{ArrayRecord}
 use Rattle.description.specs.declared.records.LayerRecord.{LayerRecord}
-use Rattle.description.specs.declared.records.Sites.{Sites}
 
 -- input width, condition width, channels, head-in width, head size, head kernel, head bias (0/1), layer count L
 unfoldable pub array_of : List ℕ → ArrayRecord
@@ -34,18 +33,17 @@ unfoldable pub activation_of : ℕ → ℕ → Activation
 activation_of code slope = get_or (Tanh ∷ Relu ∷ Sigmoid ∷ []) code (LeakyRelu (of_bits binary32 slope))
 
 -- groups of FiLM sites 0-7, which start at a place
-unfoldable pub sites_of : List ℕ → ℕ → Sites
+unfoldable pub sites_of : List ℕ → ℕ → List ℕ
 sites_of d at =
-    record {
-      conv_pre = get_or d at 0;
-      conv_post = get_or d (at + 1) 0;
-      input_mixin_pre = get_or d (at + 2) 0;
-      input_mixin_post = get_or d (at + 3) 0;
-      activation_pre = get_or d (at + 4) 0;
-      activation_post = get_or d (at + 5) 0;
-      layer1x1_post = get_or d (at + 6) 0;
-      head1x1_post = get_or d (at + 7) 0;
-    }
+    get_or d at 0
+    ∷ get_or d (at + 1) 0
+    ∷ get_or d (at + 2) 0
+    ∷ get_or d (at + 3) 0
+    ∷ get_or d (at + 4) 0
+    ∷ get_or d (at + 5) 0
+    ∷ get_or d (at + 6) 0
+    ∷ get_or d (at + 7) 0
+    ∷ []
 
 unfoldable pub layer_of : List ℕ → ℕ → LayerRecord
 layer_of d l =

@@ -1,11 +1,11 @@
 // The parts that records ask for: the shapes of their convolutions. Carries the fields of layer.rs and array.rs, with an absent `Option` as `None`.
 // Document 01, 'Description' (mid, FiLM sites and widths, order of convolutions).
 ghost use Rattle.std.specs.Prelude.{◌≡◌, ◌<◌, Some};
-ghost use Rattle.description.specs.Parts.{conv_of, head1x1_of, head_rechannel_of, layer1x1_of, mid, mixin_of, part_of, rechannel_of, site_groups, site_of, site_width, uneven_of};
+ghost use Rattle.description.specs.Parts.{conv_of, head1x1_of, head_rechannel_of, layer1x1_of, mid, mixin_of, part_of, rechannel_of, site_of, site_width, uneven_of};
 ghost use Rattle.shape.specs.Counts.{InRange};
 ghost use Rattle.description.specs.Ranges.{ArrayRanges, Fits, LayerRanges};
 
-use crate::records::{ArrayRecord, LayerRecord, Sites};
+use crate::records::{ArrayRecord, LayerRecord};
 use shape::Shape;
 
 // A slot of the list of parts: none where a 0 makes the part absent.
@@ -112,23 +112,6 @@ fn head1x1(a: ArrayRecord, r: LayerRecord) -> Part
     })
 }
 
-// The groups of site i.
-pub fn site_groups(s: Sites, i: usize) -> usize
-    requires { i < 8 }
-    ensures { result ≡ site_groups s i }
-{
-    match i {
-        0 => s.conv_pre,
-        1 => s.conv_post,
-        2 => s.input_mixin_pre,
-        3 => s.input_mixin_post,
-        4 => s.activation_pre,
-        5 => s.activation_post,
-        6 => s.layer1x1_post,
-        _ => s.head1x1_post,
-    }
-}
-
 // The width of site 7: that of what head1x1 gives, or channels.
 fn last_width(a: ArrayRecord, r: LayerRecord) -> usize
     ensures { result ≡ site_width a r 7 }
@@ -165,8 +148,7 @@ fn site(a: ArrayRecord, r: LayerRecord, i: usize) -> Part
     requires i_bound { i < 8 }
     ensures { result ≡ site_of a r i }
 {
-    let sites = r.sites;
-    let groups = site_groups(sites, i);
+    let groups = r.sites[i];
     if groups == 0 {
         return None;
     }

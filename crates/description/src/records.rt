@@ -20,19 +20,6 @@ pub struct ArrayRecord {
     pub layers: usize,
 }
 
-// The groups of the FiLM sites 0 to 7, 0 where a site is absent.
-#[derive(Clone, Copy)]
-pub struct Sites {
-    pub conv_pre: usize,
-    pub conv_post: usize,
-    pub input_mixin_pre: usize,
-    pub input_mixin_post: usize,
-    pub activation_pre: usize,
-    pub activation_post: usize,
-    pub layer1x1_post: usize,
-    pub head1x1_post: usize,
-}
-
 // A layer's twenty-four numbers; an activation with its slope is one value.
 #[derive(Clone, Copy)]
 pub struct LayerRecord {
@@ -49,7 +36,8 @@ pub struct LayerRecord {
     pub head1x1_width: usize,
     pub head1x1_groups: usize,
     pub head1x1_bias: bool,
-    pub sites: Sites,
+    /// The groups of the FiLM sites 0 to 7, 0 where a site is absent.
+    pub sites: [usize; 8],
     pub shift_bits: usize,
 }
 
@@ -99,20 +87,20 @@ fn read_activation(code: u32, slope: u32) -> Activation
     }
 }
 
-fn read_sites(description: &[u32], at: usize) -> Sites
+fn read_sites(description: &[u32], at: usize) -> [usize; 8]
     requires { at + 8 ≤ length description.now }
     ensures { result ≡ sites_of description.now at }
 {
-    Sites {
-        conv_pre: number(description, at),
-        conv_post: number(description, at + 1),
-        input_mixin_pre: number(description, at + 2),
-        input_mixin_post: number(description, at + 3),
-        activation_pre: number(description, at + 4),
-        activation_post: number(description, at + 5),
-        layer1x1_post: number(description, at + 6),
-        head1x1_post: number(description, at + 7),
-    }
+    [
+        number(description, at),
+        number(description, at + 1),
+        number(description, at + 2),
+        number(description, at + 3),
+        number(description, at + 4),
+        number(description, at + 5),
+        number(description, at + 6),
+        number(description, at + 7),
+    ]
 }
 
 // Layer l's record, whatever its numbers are.

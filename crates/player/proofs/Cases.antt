@@ -58,5 +58,5 @@ pub case_a_printed : file_text file_a
     ++ (50 ∷ 32 ∷ 52 ∷ 49 ∷ 52 ∷ 48 ∷ 48 ∷ 48 ∷ 48 ∷ 48 ∷ 32 ∷ 52 ∷ 49 ∷ 54 ∷ 56 ∷ 48 ∷ 48 ∷ 48 ∷ 48 ∷ 10 ∷ [])
     ++ (51 ∷ 32 ∷ 48 ∷ 48 ∷ 48 ∷ 48 ∷ 48 ∷ 48 ∷ 48 ∷ 48 ∷ 32 ∷ 99 ∷ 48 ∷ 102 ∷ 48 ∷ 48 ∷ 48 ∷ 48 ∷ 48 ∷ 10 ∷ [])
     ++ (101 ∷ 110 ∷ 100 ∷ 32 ∷ 52 ∷ 10 ∷ [])
-unfolding file_a file_text columns_in weights_in column_held column_lines columns_held decimal_by decimal_of hex_digit hex_of last_of line_of lines_of named_of spaced_of values_text number_at file_played file_refusal stream_of bad_header other_magic description_of no_room opening_refusal short_for weights_at played_of stream_refusal whole_in float_at floats_of half_at word_at words_of silence silent weightsOfSlot E entry position_of starts_of silence_of of_bits to_bits add mul sub div lt neg tab fill sum_from ring_length inputs_per_group outputs_per_group kernel_count weight_count history_count next_place place_back push past start_of steps_back channel_of weight_index tap_from taps_from output modulated modulation_of relu leaky sigmoid activated input_rows blend joined array_limits layer_limits breaks_range mid unless0 site_groups rechannel_of head_rechannel_of conv_of mixin_of layer1x1_of head1x1_of site_width site_of slots_of each_layer parts_to parts_of uneven_of array_of mode_of activation_of sites_of layer_of refused1 breaks_layer refused2 refused3 head_width unmatched_of refused4 refused5 refusal_of weights_of histories_of positions_of total place_of place_at largest widest_of sum_below depth_of sizes_of any_below any breaks_activations breaks_parts breaks_sites breaks_zero_rule memory_in pushed convolved sited applies applied_site site' site conv_input conv' conv_output mixin_input mixin' mixin_output z gated head1x1' contribution accumulated layer1x1' signal column.after through stepped states_after columns_after part_at first_part part_count weights_of_part next rechannelled layered headed out
+unfolding file_a file_text columns_in weights_in column_held column_lines columns_held decimal_by decimal_of hex_digit hex_of last_of line_of lines_of named_of spaced_of values_text number_at file_played file_refusal stream_of bad_header other_magic description_of no_room opening_refusal short_for weights_at played_of stream_refusal whole_in float_at floats_of half_at word_at words_of silence silent weightsOfSlot E entry position_of starts_of silence_of of_bits to_bits add mul sub div lt neg tab fill sum_from ring_length inputs_per_group outputs_per_group kernel_count weight_count history_count next_place place_back push past start_of steps_back channel_of weight_index tap_from taps_from output modulated modulation_of relu leaky sigmoid activated input_rows blend joined array_limits layer_limits breaks_range mid unless0 rechannel_of head_rechannel_of conv_of mixin_of layer1x1_of head1x1_of site_width site_of slots_of each_layer parts_to parts_of uneven_of array_of mode_of activation_of sites_of layer_of refused1 breaks_layer refused2 refused3 head_width unmatched_of refused4 refused5 refusal_of weights_of histories_of positions_of total place_of place_at largest widest_of sum_below depth_of sizes_of any_below any breaks_activations breaks_parts breaks_sites breaks_zero_rule memory_in pushed convolved sited applies applied_site site' site conv_input conv' conv_output mixin_input mixin' mixin_output z gated head1x1' contribution accumulated layer1x1' signal column.after through stepped states_after columns_after part_at first_part part_count weights_of_part next rechannelled layered headed out
 case_a_printed = refl
