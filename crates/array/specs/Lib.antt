@@ -5,3 +5,4 @@ pub mod Lent
 pub mod Refusals
 pub mod Calls
 pub mod Turn
+pub mod Buffers

@@ -14,7 +14,7 @@ use Rattle.description.specs.declared.places.Place.{Place}
 use Rattle.array.specs.Stages.{Column, first_part, stage_count, next, out}
 use Rattle.array.specs.Memories.{memories_of}
 use Rattle.array.specs.Planar.{column_in}
-use Rattle.array.specs.Lent.{Given}
+use Rattle.array.specs.Lent.{Given, Lent}
 
 -- the buffers that turns change
 pub record Changing : Type 0 where
@@ -23,6 +23,9 @@ pub record Changing : Type 0 where
   pub head_out : List Float
   pub array_out : List Float
   pub scratch : List Float
+
+abbrev pub changing : Lent → Changing
+changing b = record { histories = b.histories; positions = b.positions; head_out = b.head_out; array_out = b.array_out; scratch = b.scratch }
 
 -- where stage k's numbers start
 abbrev pub start_of : List ℕ → ℕ → Place
