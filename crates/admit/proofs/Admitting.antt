@@ -23,7 +23,7 @@ use Rattle.description.proofs.Sound.{widest_most}
 use Rattle.array.specs.Lent.{Lent}
 use Rattle.array.specs.Refusals.{beyond, block_refusal, refused7, refused8}
 use Rattle.admit.specs.Admits.{Admits}
-use Rattle.admit.specs.Lengths.{differing, lengths_of}
+use Rattle.admit.specs.Lengths.{differing}
 use Rattle.admit.proofs.Facts.{eight_exactly_when, low_refused, none_exactly_when, seven_exactly_when, six_exactly_when}
 use Rattle.admit.proofs.Letting.{few, positions_fit, too_many}
 
@@ -64,13 +64,13 @@ module _ (b : Lent) (n : ℕ) {checked : Checked} (answer : Answers b.descriptio
         let z : block_refusal b n ≡ 6 = (six_exactly_when b n).1 (described, too_many n lt) in
         refusing b n (sym z) (λ q. omega arith)
 
-    module _ (le : n ≤ 1024) {a : ArrayRecord} (ae : a ≡ array_of b.description) {differ : Bool} (de : differ ≡ differing (lengths_of b) a s n) where
+    module _ (le : n ≤ 1024) {a : ArrayRecord} (ae : a ≡ array_of b.description) {differ : Bool} (de : differ ≡ differing b a s n) where
       seven_is : differ ≡ refused7 b n
-      unfolding refused7 differing lengths_of
+      unfolding refused7 differing
       seven_is =
           de
-          ∙ ap (λ (a : ArrayRecord). differing (lengths_of b) a s n) ae
-          ∙ ap (λ (s : Sizes). differing (lengths_of b) (array_of b.description) s n) sizes_are
+          ∙ ap (λ (a : ArrayRecord). differing b a s n) ae
+          ∙ ap (λ (s : Sizes). differing b (array_of b.description) s n) sizes_are
 
       pub other_lengths : differ ≡ true → Admits b n (Err BufferLength)
       other_lengths t =
