@@ -11,7 +11,7 @@ use Rattle.lists.specs.Tab.{at, tab, rows}
 use Rattle.lists.specs.Region.{Apart, Holds, Strip, Free, Beside}
 use Rattle.lists.proofs.Nums.{row_end}
 use borrow.Author.Tests.{lt-ltb}
-use Rattle.stage.proofs.Placing.{placed_on, not_both}
+use Rattle.stage.proofs.Placing.{placed_on}
 use Rattle.lists.proofs.Tab.{at-tab, tab_ext}
 use Rattle.lists.proofs.Rows.{length-rows}
 use Rattle.lists.proofs.Regions.{free_then, free_as, rows_free, rows_holds, rows_strip, rows_beside, strip_as, strip_free}
@@ -23,7 +23,6 @@ use Rattle.description.specs.Numbers.{layer_count}
 use Rattle.description.specs.Parts.{parts_of, rechannel_of}
 use Rattle.description.specs.Records.{array_of}
 use Rattle.description.specs.Sizes.{place_at, widest_of, histories_of, positions_of, past_of}
-use Rattle.description.specs.Part.{Part}
 use Rattle.description.specs.declared.places.Place.{Place}
 use Rattle.description.specs.declared.records.ArrayRecord.{ArrayRecord}
 use Rattle.description.specs.Refusals.{refusal_of}
@@ -39,7 +38,8 @@ use Rattle.array.specs.Planar.{column_in}
 use Rattle.array.specs.Lent.{Given}
 use Rattle.array.specs.Turn.{Changing, start_of, column_at, comes, between, past, entering, leaving, TurnDone}
 use Rattle.stage.specs.declared.span.Span.{Span}
-use Rattle.stage.specs.Turns.{StageFits, FirstTurn, given_of, changing_of}
+use Rattle.stage.specs.Turns.{StageFits}
+use Rattle.stage.proofs.ByKind.{FirstTurn, given_of, changing_of}
 use Rattle.stage.proofs.Columns.{column_taken, beside_column, column_kept}
 use Rattle.stage.proofs.Widths.{Room, array_room, part_fits}
 use Rattle.stage.proofs.Single.{single_remembers, single_gives}

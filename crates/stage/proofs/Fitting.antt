@@ -24,7 +24,8 @@ use Rattle.layer.proofs.Places.{total_le}
 use Rattle.array.specs.Stages.{first_part}
 use Rattle.array.specs.Turn.{start_of}
 use Rattle.stage.specs.declared.span.Span.{Span}
-use Rattle.stage.specs.Turns.{StageFits, LayerTurn}
+use Rattle.stage.specs.Turns.{StageFits}
+use Rattle.stage.proofs.ByKind.{LayerTurn}
 use Rattle.stage.specs.Copies.{CopyFits, Brought, HandedOn}
 use Rattle.stage.proofs.Widths.{room, array_room, array_room_of, size_most, from_small}
 use Rattle.stage.proofs.Through.{slot_is, slot_place_is, layer_next, layer_turn_is}

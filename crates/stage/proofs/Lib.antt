@@ -1,3 +1,4 @@
+pub mod ByKind
 pub mod Columns
 pub mod Widths
 pub mod Single
@@ -8,4 +9,5 @@ pub mod Twelve
 pub mod Copying
 pub mod Through
 pub mod Fitting
+pub mod Numbered
 pub mod Turning

@@ -35,7 +35,8 @@ use Rattle.array.specs.Planar.{column_in}
 use Rattle.array.specs.Lent.{Given}
 use Rattle.array.specs.Turn.{Changing, start_of, column_at, between, past, entering, leaving, TurnDone}
 use Rattle.stage.specs.declared.span.Span.{Span}
-use Rattle.stage.specs.Turns.{StageFits, LayerTurn, given_of, changing_of}
+use Rattle.stage.specs.Turns.{StageFits}
+use Rattle.stage.proofs.ByKind.{LayerTurn, given_of, changing_of}
 use Rattle.stage.specs.Copies.{Brought, HandedOn}
 use Rattle.stage.proofs.Columns.{column_taken, beside_column, column_kept}
 use Rattle.stage.proofs.Widths.{Room, array_room}

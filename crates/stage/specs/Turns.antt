@@ -1,17 +1,17 @@
--- What a turn of a stage asks, and what the turn of each kind of stage does: a turn by the definition (TurnDone), whatever the buffers hold that this
--- kind of stage is not lent. Document 01, 'Plans'.
-use Rattle.std.specs.Prelude.{◌≡◌, List, ℕ, suc, ◌+◌, ◌*◌, ◌≤◌, ◌<◌, length, get_or, Float, None, Some}
+-- What a turn of a stage asks, and what it does: a turn by the definition (TurnDone). Document 01, 'Plans'.
+use Rattle.std.specs.Prelude.{◌≡◌, List, ℕ, ◌+◌, ◌*◌, ◌≤◌, ◌<◌, length, get_or, Float, None, Some}
 use Rattle.shape.specs.declared.Shape.{Shape}
 use Rattle.shape.specs.Counts.{ring_length}
-use Rattle.description.specs.Numbers.{layer_count}
 use Rattle.description.specs.Parts.{parts_of}
 use Rattle.description.specs.Records.{array_of}
 use Rattle.description.specs.Refusals.{refusal_of}
 use Rattle.description.specs.Sizes.{weights_of, histories_of, positions_of, total, place_at, widest_of}
 use Rattle.description.specs.declared.places.Place.{Place}
 use Rattle.array.specs.Stages.{stage_count}
-use Rattle.array.specs.Lent.{Given}
-use Rattle.array.specs.Turn.{Changing, start_of, TurnDone}
+use Rattle.array.specs.declared.Buffers.{Buffers}
+use Rattle.array.specs.declared.Sources.{Sources}
+use Rattle.array.specs.Buffers.{changed_by, read_by}
+use Rattle.array.specs.Turn.{start_of, TurnDone}
 use Rattle.stage.specs.declared.span.Span.{Span}
 
 -- every position is below its ring length
@@ -41,29 +41,13 @@ pub record Blocks (d : List ℕ) (n : ℕ) (input condition headIn headOut array
   pub head_out_is : length headOut ≡ (array_of d).head_size * n
   pub array_out_is : length arrayOut ≡ (array_of d).channels * n
 
--- the buffers as a turn knows them
-abbrev pub given_of : List ℕ → List Float → List Float → List Float → List Float → Given
-given_of d weights input condition headIn = record { description = d; weights = weights; input = input; condition = condition; head_in = headIn }
+-- the same of the buffers that a turn is lent
+abbrev pub TurnFits : Sources → Buffers → List Float → Span → ℕ → Place → Type 0
+TurnFits s b scratch span k start = StageFits s.description.now span k start (length s.weights.now) (length b.histories.now) b.positions.now (length scratch)
 
-abbrev pub changing_of : List Float → List ℕ → List Float → List Float → List Float → Changing
-changing_of histories positions headOut arrayOut scratch =
-    record { histories = histories; positions = positions; head_out = headOut; array_out = arrayOut; scratch = scratch }
+abbrev pub BlocksFit : Sources → Buffers → ℕ → Type 0
+BlocksFit s b n = Blocks s.description.now n s.input.now s.condition.now s.head_in.now b.head_out.now b.array_out.now
 
-module _ (d : List ℕ) (weights : List Float) (span : Span) (h0 : List Float) (p0 : List ℕ) (w0 h1 : List Float) (p1 : List ℕ) (w1 : List Float) where
-  -- stage 0 is not lent the condition and the outputs
-  pub record FirstTurn (input headIn : List Float) : Type 0 where
-    pub by : (condition headOut arrayOut : List Float)
-        → TurnDone (given_of d weights input condition headIn) span.n 0 span.from span.count (changing_of h0 p0 headOut arrayOut w0) (changing_of h1 p1 headOut arrayOut w1)
-    pub places : Placed d p1
-
-  -- layer l is lent the condition only
-  pub record LayerTurn (l : ℕ) (condition : List Float) : Type 0 where
-    pub by : (input headIn headOut arrayOut : List Float)
-        → TurnDone (given_of d weights input condition headIn) span.n (suc l) span.from span.count (changing_of h0 p0 headOut arrayOut w0) (changing_of h1 p1 headOut arrayOut w1)
-    pub places : Placed d p1
-
-  -- the last stage is lent the outputs only
-  pub record LastTurn (head0 array0 head1 array1 : List Float) : Type 0 where
-    pub by : (input condition headIn : List Float)
-        → TurnDone (given_of d weights input condition headIn) span.n (suc (layer_count d)) span.from span.count (changing_of h0 p0 head0 array0 w0) (changing_of h1 p1 head1 array1 w1)
-    pub places : Placed d p1
+-- stage k took the span's columns
+abbrev pub TurnTaken : Sources → Buffers → List Float → Buffers → List Float → Span → ℕ → Type 0
+TurnTaken s b scratch b' scratch' span k = TurnDone (read_by s) span.n k span.from span.count (changed_by b scratch) (changed_by b' scratch')

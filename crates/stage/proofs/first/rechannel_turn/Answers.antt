@@ -1,5 +1,5 @@
 -- Copies and one convolution; each asks what Widths gives, and Entry joins them into a turn of stage 0.
-use mathlib.Core.Path.{sym, ◌∙◌}
+use mathlib.Core.Path.{refl, sym, ◌∙◌}
 use native.Mathlib.Omega.{arith}
 use Rattle.description.proofs.Sound.{length_is}
 use Rattle.stage.proofs.Widths.{array_room_of, size_most, compact_in, first_in, second_in, first_apart, count_le, block_as, from_small, play_fits, past_fits}
@@ -8,7 +8,7 @@ use Rattle.description.specs.declared.records.ArrayRecord.{ArrayRecord}
 use Rattle.stage.proofs.first.rechannel_turn.Goals as goal
 
 pub read_array-a-requires : goal.read_array-a-requires
-read_array-a-requires c = omega (arith, length_is c.args.description.now c.requires.stage_fits.sound)
+read_array-a-requires c = omega (arith, length_is c.args.sources.now.description.now c.requires.stage_fits.sound)
 
 pub overflow_mul-x : goal.overflow_mul-x
 overflow_mul-x c = omega (arith, size_most c.requires.stage_fits)
@@ -22,7 +22,7 @@ overflow_mul-rows c = omega (arith, size_most c.requires.stage_fits)
 pub columns-requires : goal.columns-requires
 columns-requires c = (
   compact_in c.requires.stage_fits (array_room_of c.requires.stage_fits c.read_array-a.ensures 0) c.requires.stage_fits.scratch_is 2 (omega arith),
-  block_as c.requires.stage_fits (λ (a : ArrayRecord). a.input) c.read_array-a.ensures c.requires.input_len.0,
+  block_as c.requires.stage_fits (λ (a : ArrayRecord). a.input) c.read_array-a.ensures c.requires.blocks_fit.input_is,
   omega arith,
   count_le c.requires.stage_fits,
 )
@@ -30,8 +30,8 @@ columns-requires c = (
 pub play-requires : goal.play-requires
 play-requires c =
     let is = sym c.rechannel-sh.ensures in
-    let w = rechannel_widths c.args.description.now c.requires.stage_fits.sound c.read_array-a.ensures is in
-    play_fits c.requires.stage_fits 0 _ (rechannel_part c.args.description.now c.read_array-a.ensures is) (entry_at c.requires.stage_fits) 2 (omega arith) (c.columns.auto.dst ∙ c.requires.stage_fits.scratch_is) w.0 w.1
+    let w = rechannel_widths c.args.sources.now.description.now c.requires.stage_fits.sound c.read_array-a.ensures is in
+    play_fits c.requires.stage_fits 0 _ (rechannel_part c.args.sources.now.description.now c.read_array-a.ensures is) (entry_at c.requires.stage_fits) 2 (omega arith) (c.columns.auto.dst ∙ c.requires.stage_fits.scratch_is) w.0 w.1
 
 pub columns_within-requires : goal.columns_within-requires
 columns_within-requires c =
@@ -46,7 +46,7 @@ pub columns-requires-2 : goal.columns-requires-2
 columns-requires-2 c =
     let long = c.columns_within.auto.work ∙ c.play.auto.work ∙ c.columns.auto.dst ∙ c.requires.stage_fits.scratch_is in (
       second_in c.requires.stage_fits (array_room_of c.requires.stage_fits c.read_array-a.ensures 3) long,
-      block_as c.requires.stage_fits (λ (a : ArrayRecord). a.head_in) c.read_array-a.ensures c.requires.input_len.1,
+      block_as c.requires.stage_fits (λ (a : ArrayRecord). a.head_in) c.read_array-a.ensures c.requires.blocks_fit.head_in_is,
       count_le c.requires.stage_fits,
       count_le c.requires.stage_fits,
     )
@@ -54,11 +54,20 @@ columns-requires-2 c =
 pub past-requires : goal.past-requires
 past-requires c =
     let is = sym c.rechannel-sh.ensures in
-    let p = past_fits c.requires.stage_fits 0 _ (rechannel_part c.args.description.now c.read_array-a.ensures is) (entry_at c.requires.stage_fits) in
+    let p = past_fits c.requires.stage_fits 0 _ (rechannel_part c.args.sources.now.description.now c.read_array-a.ensures is) (entry_at c.requires.stage_fits) in
     record { low = p.0; fits = p.1 }
 
 pub returns : goal.returns
 returns c =
     let is = sym c.rechannel-sh.ensures in
-    let t = entry_turn c.args.input.now c.args.head_in.now _ _ _ _ _ c.read_array-a.result c.read_array-a.ensures c.requires.stage_fits is c.columns.ensures c.play.ensures c.columns_within.ensures c.columns-2.ensures in
-    record { value = c.past.ensures ∙ t.0; first_turn = t.1 }
+    let t = entry_turn c.args.sources.now.input.now c.args.sources.now.head_in.now _ _ _ _ _ c.read_array-a.result c.read_array-a.ensures c.requires.stage_fits is c.columns.ensures c.play.ensures c.columns_within.ensures c.columns-2.ensures in
+    record { value = c.past.ensures ∙ t.0; turn_done = t.1.by _ _ _; placed = t.1.places; same = record {
+      histories = refl;
+      positions = refl;
+      head_out = refl;
+      array_out = refl;
+      histories_long = c.play.auto.histories;
+      positions_long = c.play.auto.positions;
+      head_long = refl;
+      array_long = refl;
+    } }

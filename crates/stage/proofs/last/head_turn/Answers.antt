@@ -1,5 +1,5 @@
 -- Copies and one convolution; each asks what Widths gives, and Exit joins them into a turn of the last stage.
-use mathlib.Core.Path.{sym, ◌∙◌}
+use mathlib.Core.Path.{refl, sym, ◌∙◌}
 use native.Mathlib.Omega.{arith}
 use Rattle.description.proofs.Sound.{length_is}
 use Rattle.description.specs.declared.records.ArrayRecord.{ArrayRecord}
@@ -8,7 +8,7 @@ use Rattle.stage.proofs.Exit.{exit_turn, head_part, head_widths}
 use Rattle.stage.proofs.last.head_turn.Goals as goal
 
 pub read_array-a-requires : goal.read_array-a-requires
-read_array-a-requires c = omega (arith, length_is c.args.description.now c.requires.stage_fits.sound)
+read_array-a-requires c = omega (arith, length_is c.args.sources.now.description.now c.requires.stage_fits.sound)
 
 pub overflow_mul-x : goal.overflow_mul-x
 overflow_mul-x c = omega (arith, size_most c.requires.stage_fits)
@@ -31,13 +31,13 @@ columns_within-requires c =
 pub play-requires : goal.play-requires
 play-requires c =
     let is = sym c.head_rechannel-sh.ensures in
-    let w = head_widths c.args.description.now c.requires.stage_fits.sound c.read_array-a.ensures is in
-    play_fits c.requires.stage_fits _ _ (head_part c.args.description.now c.read_array-a.ensures is) c.requires.stage_fits.start_is 3 (omega arith) (c.columns_within.auto.work ∙ c.requires.stage_fits.scratch_is) w.0 w.1
+    let w = head_widths c.args.sources.now.description.now c.requires.stage_fits.sound c.read_array-a.ensures is in
+    play_fits c.requires.stage_fits _ _ (head_part c.args.sources.now.description.now c.read_array-a.ensures is) c.requires.stage_fits.start_is 3 (omega arith) (c.columns_within.auto.work ∙ c.requires.stage_fits.scratch_is) w.0 w.1
 
 pub columns-requires : goal.columns-requires
 columns-requires c =
     let long = c.play.auto.work ∙ c.columns_within.auto.work ∙ c.requires.stage_fits.scratch_is in (
-      block_as c.requires.stage_fits (λ (a : ArrayRecord). a.head_size) c.read_array-a.ensures c.requires.head_out_len.0,
+      block_as c.requires.stage_fits (λ (a : ArrayRecord). a.head_size) c.read_array-a.ensures c.requires.blocks_fit.head_out_is,
       compact_in c.requires.stage_fits (array_room_of c.requires.stage_fits c.read_array-a.ensures 4) long 4 (omega arith),
       count_le c.requires.stage_fits,
       omega arith,
@@ -46,7 +46,7 @@ columns-requires c =
 pub columns-requires-2 : goal.columns-requires-2
 columns-requires-2 c =
     let long = c.play.auto.work ∙ c.columns_within.auto.work ∙ c.requires.stage_fits.scratch_is in (
-      block_as c.requires.stage_fits (λ (a : ArrayRecord). a.channels) c.read_array-a.ensures c.requires.head_out_len.1,
+      block_as c.requires.stage_fits (λ (a : ArrayRecord). a.channels) c.read_array-a.ensures c.requires.blocks_fit.array_out_is,
       first_in c.requires.stage_fits (array_room_of c.requires.stage_fits c.read_array-a.ensures 2) long,
       count_le c.requires.stage_fits,
       count_le c.requires.stage_fits,
@@ -55,11 +55,20 @@ columns-requires-2 c =
 pub past-requires : goal.past-requires
 past-requires c =
     let is = sym c.head_rechannel-sh.ensures in
-    let p = past_fits c.requires.stage_fits _ _ (head_part c.args.description.now c.read_array-a.ensures is) c.requires.stage_fits.start_is in
+    let p = past_fits c.requires.stage_fits _ _ (head_part c.args.sources.now.description.now c.read_array-a.ensures is) c.requires.stage_fits.start_is in
     record { low = p.0; fits = p.1 }
 
 pub returns : goal.returns
 returns c =
     let is = sym c.head_rechannel-sh.ensures in
-    let t = exit_turn _ _ _ _ _ _ _ c.read_array-a.result c.read_array-a.ensures c.requires.stage_fits c.requires.head_out_len.0 c.requires.head_out_len.1 is c.columns_within.ensures c.play.ensures c.columns.ensures c.columns-2.ensures in
-    record { value = c.past.ensures ∙ t.0; last_turn = t.1 }
+    let t = exit_turn _ _ _ _ _ _ _ c.read_array-a.result c.read_array-a.ensures c.requires.stage_fits c.requires.blocks_fit.head_out_is c.requires.blocks_fit.array_out_is is c.columns_within.ensures c.play.ensures c.columns.ensures c.columns-2.ensures in
+    record { value = c.past.ensures ∙ t.0; turn_done = t.1.by _ _ _; placed = t.1.places; same = record {
+      histories = refl;
+      positions = refl;
+      head_out = refl;
+      array_out = refl;
+      histories_long = c.play.auto.histories;
+      positions_long = c.play.auto.positions;
+      head_long = c.columns.auto.dst;
+      array_long = c.columns-2.auto.dst;
+    } }

@@ -8,24 +8,24 @@ use Rattle.stage.proofs.Fitting.{copy_fits, layer_fits, slots_fit, end_is, layer
 use Rattle.stage.proofs.middle.layer_turn.Goals as goal
 
 pub read_array-a-requires : goal.read_array-a-requires
-read_array-a-requires c = omega (arith, length_is c.args.description.now c.requires.stage_fits.sound)
+read_array-a-requires c = omega (arith, length_is c.args.sources.now.description.now c.requires.stage_fits.sound)
 
 pub layer_record-r-requires : goal.layer_record-r-requires
-layer_record-r-requires c = omega (arith, length_is c.args.description.now c.requires.stage_fits.sound, c.requires.l_bound.0)
+layer_record-r-requires c = omega (arith, length_is c.args.sources.now.description.now c.requires.stage_fits.sound, c.requires.l_bound)
 
 pub slots_from-slots-requires : goal.slots_from-slots-requires
 slots_from-slots-requires c =
-    let f = slots_fit c.args.weights.now c.args.histories.now c.requires.stage_fits c.requires.l_bound.0 c.read_array-a.ensures c.layer_record-r.ensures in
+    let f = slots_fit c.args.sources.now.weights.now c.args.buffers.now.histories.now c.requires.stage_fits c.requires.l_bound c.read_array-a.ensures c.layer_record-r.ensures in
     record { array_ranges = f.0; layer_ranges = f.1; low = f.2 }
 
 pub bring-requires : goal.bring-requires
 bring-requires c =
-    record { copy_fits = copy_fits c.requires.stage_fits c.read_array-a.ensures c.requires.stage_fits.scratch_is; condition_len = c.requires.l_bound.1 ∙ ap (λ (a : ArrayRecord). a.condition * c.args.span.n) (sym c.read_array-a.ensures) }
+    record { copy_fits = copy_fits c.requires.stage_fits c.read_array-a.ensures c.requires.stage_fits.scratch_is; condition_len = c.requires.blocks_fit.condition_is ∙ ap (λ (a : ArrayRecord). a.condition * c.args.span.n) (sym c.read_array-a.ensures) }
 
 pub layer-result-requires : goal.layer-result-requires
 layer-result-requires c =
     record {
-      layer_fits = layer_fits c.args.weights.now c.args.histories.now c.requires.stage_fits c.requires.l_bound.0 c.read_array-a.ensures c.layer_record-r.ensures c.slots_from-slots.ensures.0
+      layer_fits = layer_fits c.args.sources.now.weights.now c.args.buffers.now.histories.now c.requires.stage_fits c.requires.l_bound c.read_array-a.ensures c.layer_record-r.ensures c.slots_from-slots.ensures.0
           (c.bring.auto.scratch ∙ c.requires.stage_fits.scratch_is);
       slots_of = c.slots_from-slots.ensures.1;
     }
@@ -36,8 +36,20 @@ hand_on-requires c =
 
 pub returns : goal.returns
 returns c =
+    let t = layer_turn c.args.sources.now.weights.now c.args.buffers.now.histories.now c.requires.stage_fits c.requires.l_bound c.args.sources.now.condition.now _ _ _ _ refl
+    c.read_array-a.ensures c.layer_record-r.ensures c.slots_from-slots.ensures.0 c.bring.ensures c.layer-result.ensures c.hand_on.ensures in
     record {
-      value = c.slots_from-slots.ensures.2 ∙ end_is c.args.weights.now c.args.histories.now c.requires.stage_fits c.requires.l_bound.0 c.read_array-a.ensures c.layer_record-r.ensures;
-      layer_turn = layer_turn c.args.weights.now c.args.histories.now c.requires.stage_fits c.requires.l_bound.0 c.args.condition.now _ _ _ _ refl
-          c.read_array-a.ensures c.layer_record-r.ensures c.slots_from-slots.ensures.0 c.bring.ensures c.layer-result.ensures c.hand_on.ensures;
+      value = c.slots_from-slots.ensures.2 ∙ end_is c.args.sources.now.weights.now c.args.buffers.now.histories.now c.requires.stage_fits c.requires.l_bound c.read_array-a.ensures c.layer_record-r.ensures;
+      turn_done = t.by _ _ _ _;
+      placed = t.places;
+      same = record {
+      histories = refl;
+      positions = refl;
+      head_out = refl;
+      array_out = refl;
+      histories_long = c.layer-result.auto.histories;
+      positions_long = c.layer-result.auto.positions;
+      head_long = refl;
+      array_long = refl;
+    };
     }
