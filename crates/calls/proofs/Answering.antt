@@ -23,6 +23,7 @@ use Rattle.description.proofs.Sound.{widest_most}
 use Rattle.array.specs.Stages.{stage_count}
 use Rattle.array.specs.Planar.{columns_in, block_of}
 use Rattle.array.specs.Lent.{Lent, Left, with_scratch}
+use Rattle.array.specs.Turn.{Changing}
 use Rattle.array.specs.Refusals.{block_refusal, column_refusal, planned_refusal}
 use Rattle.array.specs.Calls.{states_from, columns_from, brought, histories_played, positions_played, head_played, array_played, Answers}
 use Rattle.array.proofs.Views.{histories_are, positions_are}
@@ -44,8 +45,8 @@ module _ (b : Lent) (n : ℕ) where
   }
 
   -- played
-  pub played_as : (q : ℕ) (cut : List Float) {histories : List Float} {positions : List ℕ} {headOut arrayOut : List Float} (scratch : List Float) → q ≡ 0
-      → Done (with_scratch b cut) n histories positions headOut arrayOut → Answers b n q (left_of 0 histories positions headOut arrayOut scratch)
+  pub played_as : (q : ℕ) (cut : List Float) {e : Changing} (scratch : List Float) → q ≡ 0
+      → Done (with_scratch b cut) n e → Answers b n q (left_of 0 e.histories e.positions e.head_out e.array_out scratch)
   unfolding histories_played positions_played head_played array_played states_from columns_from brought
   played_as q cut scratch z done = record {
     answer = sym z;

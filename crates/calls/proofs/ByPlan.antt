@@ -8,15 +8,14 @@ use native.Mathlib.Omega.{arith}
 use borrow.Author.Tests.{eq-eqb, ne_eqb}
 use lib.ListN.{length, get_or, drop, replicate, length-replicate}
 use Rattle.lists.proofs.Nums.{le_or_lt}
-use Rattle.lists.proofs.Tab.{at-tab, length-tab}
 use Rattle.turns.specs.Plan.{limit, taken, keeps_from, keeps_rule}
 use Rattle.turns.proofs.Rule.{Allowed, NonePast, limit_le, none-past_first, none-past_more, turn_allowed, rest_keeps, whole_turn, all_reached, taken_same, taken_other, length_taken, rule_first}
 use Rattle.array.specs.Stages.{stage_count}
 use Rattle.array.specs.Lent.{Lent, given}
-use Rattle.array.specs.Turn.{Changing, TurnDone, start_of}
+use Rattle.array.specs.Turn.{Changing, changing, TurnDone}
 use Rattle.array.proofs.Turning.{moved}
-use Rattle.stage.specs.Turns.{Placed, changing_of}
-use Rattle.calls.specs.Fit.{Fit, Done, Starts}
+use Rattle.stage.specs.Turns.{Placed}
+use Rattle.calls.specs.Fit.{Fit, Done}
 use Rattle.calls.proofs.UnderWay.{UnderWay, at_first, begins_as, goes_on, ends}
 
 -- the rest of the plan keeps the rule
@@ -66,7 +65,7 @@ module _ (b : Lent) (n : ℕ) (plan : List ℕ) where
     first_limit reached is (suc k) = let q = (none-past_first 0 (stage_count b.description)).most k in let e : get_or reached k 0 ≡ 0 = rw is (omega (arith, q)) in sym e
 
     pub planned_begins : (reached : List ℕ) → reached ≡ replicate (stage_count b.description) 0
-        → UnderWay b n size (changing_of b.histories b.positions b.head_out b.array_out b.scratch) (limit n reached)
+        → UnderWay b n size (changing b) (limit n reached)
     planned_begins reached is = begins_as b fit (limit n reached) (first_limit reached is)
 
     module _ {e e' : Changing} {reached : List ℕ} (k count : ℕ) (way : UnderWay b n size e (limit n reached)) (turn : Allowed (stage_count b.description) n reached k count)
@@ -94,22 +93,5 @@ module _ (b : Lent) (n : ℕ) (plan : List ℕ) where
           goes_on b fit k (get_or reached k 0) count way turn.there here_is turn.within done placed head_long array_long scratch_long (limit n (taken reached k count)) moved_is
 
     pub planned_ends : {e : Changing} {i : ℕ} {reached : List ℕ} → UnderWay b n size e (limit n reached) → OnPlan b n plan i reached → length plan / 2 ≤ i
-        → Done b n e.histories e.positions e.head_out e.array_out
+        → Done b n e
     planned_ends way on past = ends b fit way (plan_over on past)
-
--- stage k's start, as the three lists have it
-pub start_each : (d : List ℕ) {w h p : List ℕ} → Starts d w h p → (k : ℕ) → k < stage_count d
-    → record { weights = get_or w k 0; histories = get_or h k 0; positions = get_or p k 0 } ≡ start_of d k
-start_each d s k lt =
-    rw (
-      ap (λ (l : List ℕ). get_or l k 0) s.weights_at_is ∙ at-tab 0 (stage_count d) (λ k. (start_of d k).weights) k lt,
-      ap (λ (l : List ℕ). get_or l k 0) s.histories_at ∙ at-tab 0 (stage_count d) (λ k. (start_of d k).histories) k lt,
-      ap (λ (l : List ℕ). get_or l k 0) s.positions_at ∙ at-tab 0 (stage_count d) (λ k. (start_of d k).positions) k lt,
-    )
-
-pub starts_long : (d : List ℕ) {w h p : List ℕ} → Starts d w h p → (length w ≡ stage_count d) × (length h ≡ stage_count d) × (length p ≡ stage_count d)
-starts_long d s = (
-  ap length s.weights_at_is ∙ length-tab (stage_count d) (λ k. (start_of d k).weights),
-  ap length s.histories_at ∙ length-tab (stage_count d) (λ k. (start_of d k).histories),
-  ap length s.positions_at ∙ length-tab (stage_count d) (λ k. (start_of d k).positions),
-)

@@ -11,10 +11,10 @@ use lib.ListN.{length}
 use Rattle.lists.proofs.Nums.{le_or_lt}
 use Rattle.array.specs.Stages.{stage_count, first_part}
 use Rattle.array.specs.Lent.{Lent, given}
-use Rattle.array.specs.Turn.{Changing, TurnDone, start_of}
+use Rattle.array.specs.Turn.{Changing, changing, TurnDone, start_of}
 use Rattle.array.proofs.Turning.{moved}
 use Rattle.description.specs.Sizes.{place_at, place_of, total}
-use Rattle.stage.specs.Turns.{Placed, changing_of}
+use Rattle.stage.specs.Turns.{Placed}
 use Rattle.calls.specs.Fit.{Fit, Done}
 use Rattle.calls.proofs.UnderWay.{UnderWay, at_first, begins_as, goes_on, ends}
 
@@ -28,7 +28,7 @@ unfolding place_at place_of total first_part
 start_first d = refl
 
 module _ (b : Lent) {n size : ℕ} (fit : Fit b n size) where
-  pub block_begins : UnderWay b n size (changing_of b.histories b.positions b.head_out b.array_out b.scratch) (first_done n 0)
+  pub block_begins : UnderWay b n size (changing b) (first_done n 0)
   block_begins = begins_as b fit (first_done n 0) same
     where
       same : (j : ℕ) → at_first b n j ≡ first_done n 0 j
@@ -55,5 +55,5 @@ module _ (b : Lent) {n size : ℕ} (fit : Fit b n size) where
             (le_or_lt j (suc k)))
             (le_or_lt (suc j) (suc k))
 
-  pub block_ends : {e : Changing} {k : ℕ} → UnderWay b n size e (first_done n k) → k ≡ stage_count b.description → Done b n e.histories e.positions e.head_out e.array_out
+  pub block_ends : {e : Changing} {k : ℕ} → UnderWay b n size e (first_done n k) → k ≡ stage_count b.description → Done b n e
   block_ends {e} {k} way is = ends b fit way (λ j l. rw (lt-ltb j (suc k) (omega (arith, l, is))))

@@ -2,13 +2,13 @@
 use Rattle.std.specs.Prelude.{None}
 use mathlib.Core.Path.{◌≡◌, refl, sym, ◌∙◌, ap, subst}
 use mathlib.Core.List.{List, ◌∷◌}
+use mathlib.Core.Logic.{⊎_elim}
 use Prim.Native.Nat.{ℕ, zero, suc, ◌+◌, ◌-◌, ◌*◌, ◌≤◌, ◌<◌}
 use native.Mathlib.Nat.{not-suc-le-zero, le_of_suc-le-suc, sub-zero}
 use native.Mathlib.Omega.{arith}
-use lib.ListN.{length, get_or, take, replicate, length-replicate}
-use lib.Seq.{take_all}
-use Rattle.lists.specs.Tab.{tab, fill}
-use Rattle.lists.proofs.Fill.{fill_all}
+use lib.ListN.{length, get_or, set, take, replicate, length-replicate}
+use lib.Seq.{take_all, get_or-set_same, get_or-set_other}
+use Rattle.lists.proofs.Nums.{le_or_lt}
 use Rattle.description.specs.Numbers.{layer_count}
 use Rattle.description.specs.Parts.{parts_of, slots_of, rechannel_of, head_rechannel_of}
 use Rattle.description.specs.Ranges.{ArrayRanges, LayerRanges, Low, Fits}
@@ -25,6 +25,7 @@ use Rattle.layer.proofs.Places.{total_le}
 use Rattle.array.specs.Stages.{first_part}
 use Rattle.array.specs.Turn.{start_of}
 use Rattle.stage.proofs.Through.{layer_next}
+use Rattle.calls.specs.Fit.{nowhere}
 
 module _ (d : List ℕ) (ok : refusal_of d ≡ 0) where
   -- every place is low
@@ -49,22 +50,22 @@ module _ (d : List ℕ) (ok : refusal_of d ≡ 0) where
     first_after e z = rw (at, z, e ∙ ap rechannel_of is ∙ sym (part_first d)) (sym (place_next d 0 (omega (arith, length-parts d))))
 
     -- the layers
-    module _ {r : LayerRecord} (in-range : k - 1 < layer_count d) (nz : 1 ≤ k) (reads : r ≡ layer_of d (k - 1)) where
-      there : start ≡ place_at d (1 + 12 * (k - 1))
+    module _ {l : ℕ} {r : LayerRecord} (in-range : l < layer_count d) (number : suc l ≡ k) (reads : r ≡ layer_of d l) where
+      there : start ≡ place_at d (1 + 12 * l)
       unfolding first_part
-      there = at ∙ ap (λ (j : ℕ). place_at d (first_part j)) (let e : k ≡ suc (k - 1) = omega (arith, nz) in e)
+      there = at ∙ ap (λ (j : ℕ). place_at d (first_part j)) (sym number)
 
       pub layer_after : past_all start (slots_of a r) ≡ start_of d (suc k)
       layer_after =
           ap (λ (x : ArrayRecord). past_all start (slots_of x r)) is ∙ ap (λ (x : LayerRecord). past_all start (slots_of (array_of d) x)) reads
-          ∙ ap (λ (x : Place). past_all x (slots_of (array_of d) (layer_of d (k - 1)))) there
-          ∙ sym (layer_next d (k - 1) in-range)
-          ∙ ap (λ (j : ℕ). start_of d (suc j)) (let e : suc (k - 1) ≡ k = omega (arith, nz) in e)
+          ∙ ap (λ (x : Place). past_all x (slots_of (array_of d) (layer_of d l))) there
+          ∙ sym (layer_next d l in-range)
+          ∙ ap (λ (j : ℕ). start_of d (suc j)) number
 
       pub slots_low : ArrayRanges a × LayerRanges r × Low 0xffff_ffff (past_all start (slots_of a r))
       slots_low = (
         subst ArrayRanges (sym is) (array_in_range d ok),
-        subst LayerRanges (sym reads) (layer_in_range d ok (k - 1) in-range),
+        subst LayerRanges (sym reads) (layer_in_range d ok l in-range),
         subst (Low 0xffff_ffff) (sym layer_after) (low-at (first_part (suc k))),
       )
 
@@ -83,9 +84,14 @@ module _ (d : List ℕ) (ok : refusal_of d ≡ 0) where
         ∙ place_next d (12 * layer_count d + 1) (omega (arith, length-parts d))
         ∙ ap (λ (j : ℕ). past_of (place_of (take j (parts_of d))) (get_or (parts_of d) (12 * layer_count d + 1) None)) (sym q)))
 
--- a list filled to its end
-pub filled : {l : List ℕ} (old : List ℕ) (k n : ℕ) (f : ℕ → ℕ) → k ≡ n → l ≡ fill 0 k f old → length old ≡ n → l ≡ tab n f
-filled {l} old k n f e is long = is ∙ ap (λ (j : ℕ). fill 0 j f old) e ∙ fill_all 0 n f old long
+-- one start more in the list
+pub start_stored : (d : List ℕ) (places : List Place) (k : ℕ) {start : Place} → k < length places → start ≡ start_of d k
+    → ((j : ℕ) → j < k → get_or places j nowhere ≡ start_of d j) → (j : ℕ) → j < k + 1 → get_or (set places k start) j nowhere ≡ start_of d j
+start_stored d places k {start} room is before j le =
+    ⊎_elim
+    (λ (l : k ≤ j). let same : j ≡ k = omega (arith, l, le) in rw same (get_or-set_same places k start nowhere room ∙ is))
+    (λ (l : j < k). get_or-set_other places k j start nowhere (λ e. omega (arith, e, l)) ∙ before j l)
+    (le_or_lt k j)
 
 -- as many zeros as there are stages, of an array of 26
 abbrev zeros : ℕ → List ℕ

@@ -15,10 +15,10 @@ use Rattle.description.specs.Sizes.{histories_of, positions_of, total, widest_of
 use Rattle.array.specs.Stages.{Column, stage_count, next, out}
 use Rattle.array.specs.Memories.{memories_of}
 use Rattle.array.specs.Lent.{Lent, given}
-use Rattle.array.specs.Turn.{Changing, comes, between, past, standing, start_of, TurnDone}
+use Rattle.array.specs.Turn.{Changing, changing, comes, between, past, standing, start_of, TurnDone}
 use Rattle.array.proofs.Turning.{moved, turned}
 use Rattle.array.proofs.Ended.{array_is, head_is, histories_is, positions_is}
-use Rattle.stage.specs.Turns.{Placed, StageFits, Blocks, changing_of}
+use Rattle.stage.specs.Turns.{Placed, StageFits, Blocks}
 use Rattle.stage.specs.declared.span.Span.{Span}
 use Rattle.description.specs.declared.places.Place.{Place}
 use Rattle.calls.specs.Fit.{Fit, Done}
@@ -78,10 +78,10 @@ module _ (b : Lent) where
   at_first n (suc k) = 0
 
   module _ {n size : ℕ} (fit : Fit b n size) where
-    pub begins : UnderWay n size (changing_of b.histories b.positions b.head_out b.array_out b.scratch) (at_first n)
+    pub begins : UnderWay n size (changing b) (at_first n)
     unfolding standing
     begins = record {
-      good = fresh_good nx ou init (comes (given b) n) N n (standing (given b) n (changing_of b.histories b.positions b.head_out b.array_out b.scratch) (at_first n))
+      good = fresh_good nx ou init (comes (given b) n) N n (standing (given b) n (changing b) (at_first n))
           (record {
             states = λ k. refl;
             columns = λ t h. first t h;
@@ -97,8 +97,8 @@ module _ (b : Lent) where
       scratch_long = fit.scratch_is;
     }
       where
-        first : (t : ℕ) → t < n → cond (ltb t (at_first n N)) (past (given b) n (changing_of b.histories b.positions b.head_out b.array_out b.scratch) t)
-            (cond (ltb t 0) (between (given b) n (changing_of b.histories b.positions b.head_out b.array_out b.scratch) t) (comes (given b) n t)) ≡ comes (given b) n t
+        first : (t : ℕ) → t < n → cond (ltb t (at_first n N)) (past (given b) n (changing b) t)
+            (cond (ltb t 0) (between (given b) n (changing b) t) (comes (given b) n t)) ≡ comes (given b) n t
         first t h =
             let e : N ≡ suc (N - 1) = omega arith in
             let z : at_first n N ≡ 0 = ap (at_first n) e in
@@ -134,7 +134,7 @@ module _ (b : Lent) where
           not_moved = rw (ne_eqb 0 (suc k) (λ z. omega (arith, z)))
 
     -- all stages stand at n
-    pub ends : {e : Changing} {reach : ℕ → ℕ} → UnderWay n size e reach → ((k : ℕ) → k ≤ N → reach k ≡ n) → Done b n e.histories e.positions e.head_out e.array_out
+    pub ends : {e : Changing} {reach : ℕ → ℕ} → UnderWay n size e reach → ((k : ℕ) → k ≤ N → reach k ≡ n) → Done b n e
     unfolding standing
     ends {e} {reach} way all =
         let ended = plan_ends nx ou init (comes (given b) n) N n (standing (given b) n e reach) way.good all in
@@ -147,9 +147,9 @@ module _ (b : Lent) where
 
     -- the same by another account of how far the stages are
     pub begins_as : (reach : ℕ → ℕ) → ((j : ℕ) → at_first n j ≡ reach j)
-        → UnderWay n size (changing_of b.histories b.positions b.head_out b.array_out b.scratch) reach
+        → UnderWay n size (changing b) reach
     begins_as reach same = record {
-      good = good_same n (changing_of b.histories b.positions b.head_out b.array_out b.scratch) (at_first n) reach same begins.good;
+      good = good_same n (changing b) (at_first n) reach same begins.good;
       all = sym (same 0);
       placed = begins.placed;
       histories_long = refl;

@@ -3,30 +3,20 @@ use mathlib.Core.Path.{ap}
 use Prim.Native.Nat.{ℕ, ◌+◌, ◌≤◌}
 use native.Mathlib.Omega.{arith}
 use Rattle.description.proofs.Sound.{length_is, layers_are, layers_of}
-use Rattle.calls.proofs.Starting.{zeros_cut, zeros_long}
+use Rattle.calls.proofs.Starting.{zeros_cut}
 use Rattle.calls.proofs.plans.by_plan.Goals as goal
 
 pub read_array-a-requires : goal.read_array-a-requires
-read_array-a-requires c = omega (arith, length_is c.args.description.now c.requires.fit.admitted.described)
+read_array-a-requires c = omega (arith, length_is c.args.sources.now.description.now c.requires.fit.admitted.described)
 
 pub overflow_add-stages : goal.overflow_add-stages
-overflow_add-stages c = omega (arith, (layers_are c.args.description.now c.requires.fit.admitted.described).most, layers_of c.args.description.now c.read_array-a.ensures)
+overflow_add-stages c = omega (arith, (layers_are c.args.sources.now.description.now c.requires.fit.admitted.described).most, layers_of c.args.sources.now.description.now c.read_array-a.ensures)
 
 pub slice_bounds-reached-end : goal.slice_bounds-reached-end
-slice_bounds-reached-end c = omega (arith, (layers_are c.args.description.now c.requires.fit.admitted.described).most, layers_of c.args.description.now c.read_array-a.ensures)
+slice_bounds-reached-end c = omega (arith, (layers_are c.args.sources.now.description.now c.requires.fit.admitted.described).most, layers_of c.args.sources.now.description.now c.read_array-a.ensures)
 
-pub slice_bounds-weights_at-end : goal.slice_bounds-weights_at-end
-slice_bounds-weights_at-end c = omega (arith, (layers_are c.args.description.now c.requires.fit.admitted.described).most, layers_of c.args.description.now c.read_array-a.ensures)
-
-pub slice_bounds-histories_at-end : goal.slice_bounds-histories_at-end
-slice_bounds-histories_at-end c = omega (arith, (layers_are c.args.description.now c.requires.fit.admitted.described).most, layers_of c.args.description.now c.read_array-a.ensures)
-
-pub slice_bounds-positions_at-end : goal.slice_bounds-positions_at-end
-slice_bounds-positions_at-end c = omega (arith, (layers_are c.args.description.now c.requires.fit.admitted.described).most, layers_of c.args.description.now c.read_array-a.ensures)
-
-pub from_starts-requires : goal.from_starts-requires
-from_starts-requires c =
-    let is = ap (λ (x : ℕ). x + 2) (layers_of c.args.description.now c.read_array-a.ensures) in
-    let le : c.read_array-a.result.layers + 2 ≤ 26 = omega (arith, (layers_are c.args.description.now c.requires.fit.admitted.described).most, layers_of c.args.description.now c.read_array-a.ensures) in
-    let long = zeros_long _ _ is le in
-    record { fit = c.requires.fit; plan_value = (c.requires.plan_value, zeros_cut _ _ is le); weights_at_len = (long, long, long) }
+pub turns_in_order-requires : goal.turns_in_order-requires
+turns_in_order-requires c =
+    let is = ap (λ (x : ℕ). x + 2) (layers_of c.args.sources.now.description.now c.read_array-a.ensures) in
+    let le : c.read_array-a.result.layers + 2 ≤ 26 = omega (arith, (layers_are c.args.sources.now.description.now c.requires.fit.admitted.described).most, layers_of c.args.sources.now.description.now c.read_array-a.ensures) in
+    record { fit = c.requires.fit; plan_value = c.requires.plan_value; reached_value = zeros_cut _ _ is le; starts = c.starts-places.ensures }
