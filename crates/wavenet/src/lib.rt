@@ -14,6 +14,7 @@ ghost use Rattle.admit.specs.Admits.{lent_of};
 ghost use Rattle.calls.specs.Fit.{left_of};
 ghost use Rattle.wavenet.specs.Small.{Small};
 
+use array::{Buffers, Sources};
 use description::answers::Sizes;
 use refusal::answer;
 
@@ -93,18 +94,20 @@ pub extern "C" fn wavenet_column(
         head_in.now head_out.old array_out.old scratch.old))
         (left_of result histories.new positions.new head_out.new array_out.new scratch.new) }
 {
-    answer(calls::column(
+    let sources = Sources {
         description,
         weights,
-        histories,
-        positions,
         input,
         condition,
         head_in,
+    };
+    let mut buffers = Buffers {
+        histories,
+        positions,
         head_out,
         array_out,
-        scratch,
-    ))
+    };
+    answer(calls::column(&sources, &mut buffers, scratch))
 }
 
 // A block of n columns, planar: 0, or the refusal 1 to 8.
@@ -127,19 +130,20 @@ pub extern "C" fn wavenet_block(
         head_in.now head_out.old array_out.old scratch.old) n)
         (left_of result histories.new positions.new head_out.new array_out.new scratch.new) }
 {
-    answer(calls::block(
+    let sources = Sources {
         description,
         weights,
-        histories,
-        positions,
         input,
         condition,
         head_in,
+    };
+    let mut buffers = Buffers {
+        histories,
+        positions,
         head_out,
         array_out,
-        scratch,
-        n,
-    ))
+    };
+    answer(calls::block(&sources, &mut buffers, scratch, n))
 }
 
 // A block of n columns in the turns of a plan: 0, or the refusal 1 to 9.
@@ -163,18 +167,18 @@ pub extern "C" fn wavenet_planned(
         head_in.now head_out.old array_out.old scratch.old) n plan.now)
         (left_of result histories.new positions.new head_out.new array_out.new scratch.new) }
 {
-    answer(calls::planned(
+    let sources = Sources {
         description,
         weights,
-        histories,
-        positions,
         input,
         condition,
         head_in,
+    };
+    let mut buffers = Buffers {
+        histories,
+        positions,
         head_out,
         array_out,
-        scratch,
-        n,
-        plan,
-    ))
+    };
+    answer(calls::planned(&sources, &mut buffers, scratch, n, plan))
 }

@@ -1,5 +1,8 @@
--- What `calls::column` promises is what is promised here.
+-- What `calls::column` promises is what is promised here: the buffers stay the same borrows.
+use mathlib.Core.Path.{refl}
+use borrow.Author.Rules.{rules}
+use Rattle.wavenet.proofs.Handed.{handed}
 use Rattle.wavenet.proofs.wavenet_column.Goals as goal
 
 pub returns : goal.returns
-returns c = rw c.answer.ensures c.column.ensures
+returns c = handed c.column.ensures.answers c.answer.ensures (search rules) (search rules) (search rules) (search rules) refl
