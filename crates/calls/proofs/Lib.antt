@@ -3,3 +3,4 @@ pub mod InOrder
 pub mod Starting
 pub mod ByPlan
 pub mod Answering
+pub mod Handed

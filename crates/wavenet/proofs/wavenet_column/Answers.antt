@@ -1,7 +1,7 @@
 -- What `calls::column` promises is what is promised here: the buffers stay the same borrows.
 use mathlib.Core.Path.{refl}
 use borrow.Author.Rules.{rules}
-use Rattle.wavenet.proofs.Handed.{handed}
+use Rattle.calls.proofs.Handed.{handed}
 use Rattle.wavenet.proofs.wavenet_column.Goals as goal
 
 pub returns : goal.returns
