@@ -2,6 +2,7 @@
 ghost use Rattle.std.specs.Prelude.{◌≤◌};
 
 use crate::cases::{case_a, largest};
+use array::{Buffers, Sources};
 use refusal::Refusal;
 
 // A block of n columns of case A's array.
@@ -15,19 +16,20 @@ pub fn columns(n: usize) -> Result<(), Refusal>
     let mut head_out = [0.0f32; 1025];
     let mut array_out = [0.0f32; 1025];
     let mut scratch = [0.0f32; 16400];
-    calls::block(
-        &case_a(),
-        &weights,
-        &mut histories,
-        &mut positions,
-        &ones[..n],
-        &ones[..n],
-        &ones[..n],
-        &mut head_out[..n],
-        &mut array_out[..n],
-        &mut scratch,
-        n,
-    )
+    let sources = Sources {
+        description: &case_a(),
+        weights: &weights,
+        input: &ones[..n],
+        condition: &ones[..n],
+        head_in: &ones[..n],
+    };
+    let mut buffers = Buffers {
+        histories: &mut histories,
+        positions: &mut positions,
+        head_out: &mut head_out[..n],
+        array_out: &mut array_out[..n],
+    };
+    calls::block(&sources, &mut buffers, &mut scratch, n)
 }
 
 // 64 columns of the largest layer.
@@ -43,19 +45,20 @@ fn block(
     let head_in = [0.0f32; 2048];
     let mut array_out = [0.0f32; 2048];
     let mut scratch = [0.0f32; 32768];
-    calls::block(
-        &d,
-        &weights,
+    let sources = Sources {
+        description: &d,
+        weights: &weights,
+        input: &input,
+        condition: &condition,
+        head_in: &head_in,
+    };
+    let mut buffers = Buffers {
         histories,
         positions,
-        &input,
-        &condition,
-        &head_in,
         head_out,
-        &mut array_out,
-        &mut scratch,
-        64,
-    )
+        array_out: &mut array_out,
+    };
+    calls::block(&sources, &mut buffers, &mut scratch, 64)
 }
 
 // As many as hear the tap 2048 columns back.

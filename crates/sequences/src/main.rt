@@ -11,6 +11,7 @@ mod played;
 mod signal;
 
 use crate::played::run;
+use array::{Buffers, Sources};
 use refusal::answer;
 use std::io;
 use std::io::Write;
@@ -37,19 +38,20 @@ fn print_case_a<W: Write>(writer: &mut W) -> io::Result<()> {
     let mut array_out = [0.0f32; 4];
     let mut scratch = [0.0f32; 64];
     let reset = reset::reset(&d, &mut histories, &mut positions);
-    let block = calls::block(
-        &d,
-        &weights,
-        &mut histories,
-        &mut positions,
-        &input,
-        &condition,
-        &head_in,
-        &mut head_out,
-        &mut array_out,
-        &mut scratch,
-        4,
-    );
+    let sources = Sources {
+        description: &d,
+        weights: &weights,
+        input: &input,
+        condition: &condition,
+        head_in: &head_in,
+    };
+    let mut buffers = Buffers {
+        histories: &mut histories,
+        positions: &mut positions,
+        head_out: &mut head_out,
+        array_out: &mut array_out,
+    };
+    let block = calls::block(&sources, &mut buffers, &mut scratch, 4);
     write!(writer, "case A: {}", answer(reset.and(block)))?;
     print_all(writer, &head_out)?;
     print_all(writer, &array_out)?;

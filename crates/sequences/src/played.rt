@@ -4,6 +4,7 @@ ghost use Rattle.std.specs.Prelude.{◌≡◌, ◌+◌, ◌*◌, ◌<◌, ◌≤
 use crate::cases::two_layers;
 use crate::plans::Plan;
 use crate::signal::{COLUMNS, keep, row, same, two_rows};
+use array::{Buffers, Sources};
 use refusal::Refusal;
 
 // The layers, what they keep from call to call, and what has come out of them.
@@ -73,19 +74,20 @@ impl Play {
         let len = 2 * piece.n;
         let head_out = &mut piece.head_out[..];
         let array_out = &mut piece.array_out[..];
-        calls::block(
-            &self.description,
-            &self.weights,
-            &mut self.histories,
-            &mut self.positions,
-            &piece.input[..len],
-            &piece.condition[..len],
-            &piece.head_in[..len],
-            &mut head_out[..len],
-            &mut array_out[..len],
-            &mut scratch,
-            named,
-        )
+        let sources = Sources {
+            description: &self.description,
+            weights: &self.weights,
+            input: &piece.input[..len],
+            condition: &piece.condition[..len],
+            head_in: &piece.head_in[..len],
+        };
+        let mut buffers = Buffers {
+            histories: &mut self.histories,
+            positions: &mut self.positions,
+            head_out: &mut head_out[..len],
+            array_out: &mut array_out[..len],
+        };
+        calls::block(&sources, &mut buffers, &mut scratch, named)
     }
 
     fn column(&mut self, piece: &mut Piece) -> Result<(), Refusal>
@@ -96,18 +98,20 @@ impl Play {
         let len = 2 * piece.n;
         let head_out = &mut piece.head_out[..];
         let array_out = &mut piece.array_out[..];
-        calls::column(
-            &self.description,
-            &self.weights,
-            &mut self.histories,
-            &mut self.positions,
-            &piece.input[..len],
-            &piece.condition[..len],
-            &piece.head_in[..len],
-            &mut head_out[..len],
-            &mut array_out[..len],
-            &mut scratch,
-        )
+        let sources = Sources {
+            description: &self.description,
+            weights: &self.weights,
+            input: &piece.input[..len],
+            condition: &piece.condition[..len],
+            head_in: &piece.head_in[..len],
+        };
+        let mut buffers = Buffers {
+            histories: &mut self.histories,
+            positions: &mut self.positions,
+            head_out: &mut head_out[..len],
+            array_out: &mut array_out[..len],
+        };
+        calls::column(&sources, &mut buffers, &mut scratch)
     }
 
     fn planned(&mut self, piece: &mut Piece, plan: &[u32]) -> Result<(), Refusal>
@@ -118,20 +122,20 @@ impl Play {
         let len = 2 * piece.n;
         let head_out = &mut piece.head_out[..];
         let array_out = &mut piece.array_out[..];
-        calls::planned(
-            &self.description,
-            &self.weights,
-            &mut self.histories,
-            &mut self.positions,
-            &piece.input[..len],
-            &piece.condition[..len],
-            &piece.head_in[..len],
-            &mut head_out[..len],
-            &mut array_out[..len],
-            &mut scratch,
-            piece.n,
-            plan,
-        )
+        let sources = Sources {
+            description: &self.description,
+            weights: &self.weights,
+            input: &piece.input[..len],
+            condition: &piece.condition[..len],
+            head_in: &piece.head_in[..len],
+        };
+        let mut buffers = Buffers {
+            histories: &mut self.histories,
+            positions: &mut self.positions,
+            head_out: &mut head_out[..len],
+            array_out: &mut array_out[..len],
+        };
+        calls::planned(&sources, &mut buffers, &mut scratch, piece.n, plan)
     }
 
     // A block of one column more than is lent, which is refused, and the block; whether both were answered so.
