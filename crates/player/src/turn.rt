@@ -5,6 +5,7 @@ ghost use Rattle.wna.specs.Columns.{spread_of};
 ghost use Rattle.player.specs.Fits.{Fits, Ready};
 ghost use Rattle.player.specs.Plays.{Heard, Partly, Plays};
 
+use array::{Buffers, Sources};
 use description::records::ArrayRecord;
 use lines::put_lines;
 use reading::read_full;
@@ -66,11 +67,20 @@ fn play_columns(
         histories.new positions.new text.new }
 {
     take_columns(bytes, a, n, input, condition, head_in);
-    calls::block(
-        d, weights, histories, positions, input, condition, head_in, head_out, array_out, scratch,
-        n,
-    )
-    .unwrap();
+    let sources = Sources {
+        description: d,
+        weights,
+        input,
+        condition,
+        head_in,
+    };
+    let mut buffers = Buffers {
+        histories,
+        positions,
+        head_out,
+        array_out,
+    };
+    calls::block(&sources, &mut buffers, scratch, n).unwrap();
     put_lines(text, first, head_out, a.head_size, array_out, a.channels, n)
 }
 
