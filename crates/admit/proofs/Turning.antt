@@ -1,17 +1,16 @@
 -- The tests of a turn and of a plan's end, one by one, against the definitions. Assumes nothing.
 use mathlib.Core.Path.{◌≡◌, refl, sym, ◌∙◌, ap}
 use mathlib.Core.Bool.{Bool, true, false, and-false, cond, ◌&&◌}
-use mathlib.Core.List.{List, ◌∷◌}
-use Prim.Native.Nat.{ℕ, zero, suc, ◌+◌, ◌-◌, ◌*◌, ◌≤◌, ◌<◌}
+use mathlib.Core.List.{List, ◌∷◌, ◌++◌}
+use Prim.Native.Nat.{ℕ, zero, suc, ◌+◌, ◌-◌, ◌*◌, ◌%◌, ◌≤◌, ◌<◌}
 use native.Mathlib.Nat.{le_of_suc-le-suc, not-suc-le-zero, sub-zero}
-use native.Mathlib.Numerals.{add-one}
 use native.Mathlib.Omega.{arith}
 use lib.Dec.{leb, ltb}
-use lib.ListN.{drop, drop_of_length-le, get_or, length, length-replicate, replicate, take}
-use lib.Seq.{drop-cons}
-use borrow.Author.Tests.{eq-eqb, le-ltb, lt-leb, ne_eqb}
+use lib.ListN.{get_or, length, length-replicate, replicate, take}
+use Rattle.std.proofs.Common.{length-append}
+use borrow.Author.Tests.{le-ltb, lt-leb}
 use Rattle.turns.specs.Plan.{all_are, allows, keeps_from, keeps_rule, limit, taken}
-use Rattle.turns.proofs.Rule.{allowing, end_is, turn_is}
+use Rattle.turns.proofs.Rule.{allowing, over_is, pair_is}
 
 pub limit_zero : (n : ℕ) (reached : List ℕ) (stage : ℕ) → stage ≡ 0 → n ≡ limit n reached stage
 unfolding limit
@@ -41,39 +40,31 @@ module _ (n : ℕ) (reached : List ℕ) (stage count : ℕ) where
   is_allowed there some within =
       sym (allowing (length reached) n reached stage count (record { there = there; some = some; within = within }))
 
--- all stages at n, from stage k on
-module _ (n : ℕ) (reached : List ℕ) (k : ℕ) where
-  pub stage_at : k < length reached → get_or reached k 0 ≡ n → all_are n (drop k reached) ≡ all_are n (drop (k + 1) reached)
-  unfolding all_are
-  stage_at lt e = rw (add-one k, drop-cons reached k 0 lt, eq-eqb (get_or reached k 0) n e)
+-- the walk over the turns: v is what the whole plan comes to
+module _ (stages n : ℕ) (reached : List ℕ) (v : Bool) (long : length reached ≡ stages) (left : List ℕ) (so_far : keeps_from stages n reached left ≡ v) where
+  module _ (pair rest : List ℕ) (parts : left ≡ pair ++ rest) (two : length pair ≡ 2) {b : Bool} {reached' : List ℕ}
+      (told : b ≡ allows (length reached) n reached (get_or pair 0 0) (get_or pair 1 0))
+      (after : reached' ≡ cond b (taken reached (get_or pair 0 0) (get_or pair 1 0)) reached) where
+    answer : allows stages n reached (get_or pair 0 0) (get_or pair 1 0) ≡ b
+    answer = sym (told ∙ ap (λ (s : ℕ). allows s n reached (get_or pair 0 0) (get_or pair 1 0)) long)
 
-  pub stage_off : k < length reached → (get_or reached k 0 ≡ n → ⊥) → false ≡ all_are n (drop k reached)
-  unfolding all_are
-  stage_off lt ne = rw (drop-cons reached k 0 lt, ne_eqb (get_or reached k 0) n ne)
-
-  pub stages_end : length reached ≤ k → true ≡ all_are n (drop k reached)
-  unfolding all_are
-  stages_end le = rw (drop_of_length-le reached {i = k} le)
-
--- the loop over the turns: v is what the whole plan comes to
-module _ (stages n : ℕ) (plan : List ℕ) (i : ℕ) (reached : List ℕ) (v : Bool) (long : length reached ≡ stages)
-    (so_far : keeps_from stages n reached (drop (2 * i) plan) ≡ v) where
-  module _ (lt : 2 * i + 1 < length plan) {b : Bool} {reached' : List ℕ}
-      (told : b ≡ allows (length reached) n reached (get_or plan (2 * i) 0) (get_or plan (2 * i + 1) 0))
-      (left : reached' ≡ cond b (taken reached (get_or plan (2 * i) 0) (get_or plan (2 * i + 1) 0)) reached) where
-    answer : allows stages n reached (get_or plan (2 * i) 0) (get_or plan (2 * i + 1) 0) ≡ b
-    answer = sym (told ∙ ap (λ (s : ℕ). allows s n reached (get_or plan (2 * i) 0) (get_or plan (2 * i + 1) 0)) long)
+    turn_then : (allows stages n reached (get_or pair 0 0) (get_or pair 1 0) && keeps_from stages n (taken reached (get_or pair 0 0) (get_or pair 1 0)) rest) ≡ v
+    turn_then = sym (pair_is stages n reached pair rest two) ∙ ap (keeps_from stages n reached) (sym parts) ∙ so_far
 
     pub turn_refused : b ≡ false → false ≡ v
-    turn_refused q = rw (answer, q) at (sym (turn_is stages n reached plan i lt) ∙ so_far)
+    turn_refused q = rw (answer, q) at turn_then
 
-    pub turn_taken : b ≡ true → keeps_from stages n reached' (drop (2 * (i + 1)) plan) ≡ v
+    pub turn_taken : b ≡ true → keeps_from stages n reached' rest ≡ v
     turn_taken q =
-        let e : reached' ≡ taken reached (get_or plan (2 * i) 0) (get_or plan (2 * i + 1) 0) = rw q at left in
-        rw e (rw (answer, q) at (sym (turn_is stages n reached plan i lt) ∙ so_far))
+        let e : reached' ≡ taken reached (get_or pair 0 0) (get_or pair 1 0) = rw q at after in
+        rw e (rw (answer, q) at turn_then)
 
-  pub plan_ended : length plan ≤ 2 * i → {b : Bool} → b ≡ all_are n reached → b ≡ v
-  plan_ended le e = e ∙ sym (end_is stages n reached plan i le) ∙ so_far
+  pub plan_ended : (k : ℕ) → length left < 2 → length left ≡ 2 * k → {b : Bool} → b ≡ all_are n reached → b ≡ v
+  plan_ended k le even e = e ∙ sym (over_is stages n reached left k le even) ∙ so_far
+
+-- what is left after two numbers is even where it was before
+pub evened : (left pair rest : List ℕ) → left ≡ pair ++ rest → length pair ≡ 2 → length left % 2 ≡ 0 → length rest % 2 ≡ 0
+evened left pair rest parts two even = let e : length left ≡ length pair + length rest = ap length parts ∙ length-append pair rest in omega (arith, e, two, even)
 
 -- as many stages as there are, of an array of zeros
 abbrev zeros : ℕ → List ℕ

@@ -45,28 +45,18 @@ fn turn(reached: &mut [usize], n: usize, stage: usize, count: usize) -> bool
 fn all_at(reached: &[usize], n: usize) -> bool
     ensures { result ≡ all_are n reached.now }
 {
-    let stages = reached.len();
-    for k in 0..stages {
-        if reached[k] != n {
-            return false;
-        }
-    }
-    true
+    reached.iter().all(|at| *at == n)
 }
 
 // The turns of a plan, from where the stages have reached.
 fn walk(plan: &[u32], reached: &mut [usize], n: usize) -> bool
     ensures { result ≡ keeps_from (length reached.old) n reached.old plan.now }
 {
-    let numbers = plan.len();
-    if numbers % 2 != 0 {
+    if plan.len() % 2 != 0 {
         return false;
     }
-    let turns = numbers / 2;
-    for i in 0..turns {
-        let stage = plan[2 * i] as usize;
-        let count = plan[2 * i + 1] as usize;
-        if !turn(reached, n, stage, count) {
+    for pair in plan.chunks_exact(2) {
+        if !turn(reached, n, pair[0] as usize, pair[1] as usize) {
             return false;
         }
     }

@@ -1,15 +1,15 @@
 -- A planned block: one turn after the other, in the plan's order. How far the stages are is what the rule calls their limit. Assumes nothing.
 use mathlib.Core.Path.{◌≡◌, refl, sym, ◌∙◌, ap}
 use mathlib.Core.Bool.{true}
-use mathlib.Core.List.{List}
+use mathlib.Core.List.{List, ◌++◌}
 use mathlib.Core.Logic.{⊎_elim}
-use Prim.Native.Nat.{ℕ, zero, suc, ◌+◌, ◌*◌, ◌/◌, ◌≤◌, ◌<◌}
+use Prim.Native.Nat.{ℕ, zero, suc, ◌+◌, ◌≤◌, ◌<◌}
 use native.Mathlib.Omega.{arith}
 use borrow.Author.Tests.{eq-eqb, ne_eqb}
-use lib.ListN.{length, get_or, drop, replicate, length-replicate}
+use lib.ListN.{length, get_or, replicate, length-replicate}
 use Rattle.lists.proofs.Nums.{le_or_lt}
 use Rattle.turns.specs.Plan.{limit, taken, keeps_from, keeps_rule}
-use Rattle.turns.proofs.Rule.{Allowed, NonePast, limit_le, none-past_first, none-past_more, turn_allowed, rest_keeps, whole_turn, all_reached, taken_same, taken_other, length_taken, rule_first}
+use Rattle.turns.proofs.Rule.{Allowed, NonePast, limit_le, none-past_first, none-past_more, pair_allowed, pair_keeps, over_reached, taken_same, taken_other, length_taken, rule_first}
 use Rattle.array.specs.Stages.{stage_count}
 use Rattle.array.specs.Lent.{Lent, given}
 use Rattle.array.specs.Turn.{Changing, changing, TurnDone}
@@ -18,45 +18,40 @@ use Rattle.stage.specs.Turns.{Placed}
 use Rattle.calls.specs.Fit.{Fit, Done}
 use Rattle.calls.proofs.UnderWay.{UnderWay, at_first, begins_as, goes_on, ends}
 
--- the rest of the plan keeps the rule
-pub record OnPlan (b : Lent) (n : ℕ) (plan : List ℕ) (i : ℕ) (reached : List ℕ) : Type 0 where
+-- what is left of the plan keeps the rule
+pub record OnPlan (b : Lent) (n : ℕ) (left reached : List ℕ) : Type 0 where
   pub stages : length reached ≡ stage_count b.description
-  pub keeps : keeps_from (stage_count b.description) n reached (drop (2 * i) plan) ≡ true
+  pub keeps : keeps_from (stage_count b.description) n reached left ≡ true
   pub none-past : NonePast n reached
 
-module _ (b : Lent) (n : ℕ) (plan : List ℕ) where
-  pub plan_begins : (reached : List ℕ) → reached ≡ replicate (stage_count b.description) 0 → keeps_rule (stage_count b.description) n plan ≡ true → OnPlan b n plan 0 reached
-  plan_begins reached is keeps = record {
+module _ (b : Lent) (n : ℕ) where
+  pub plan_begins : (plan left reached : List ℕ) → left ≡ plan → reached ≡ replicate (stage_count b.description) 0 → keeps_rule (stage_count b.description) n plan ≡ true → OnPlan b n left reached
+  plan_begins plan left reached whole is keeps = record {
     stages = ap length is ∙ length-replicate (stage_count b.description) 0;
-    keeps = rw is (rule_first (stage_count b.description) n plan keeps);
+    keeps = rw (is, whole) (rule_first (stage_count b.description) n plan keeps);
     none-past = rw is (none-past_first n (stage_count b.description));
   }
 
-  module _ {i : ℕ} {reached : List ℕ} (on : OnPlan b n plan i reached) (more : i < length plan / 2) where
-    here : 2 * i < length plan
-    here = omega (arith, more)
+  module _ {left reached : List ℕ} (on : OnPlan b n left reached) where
+    module _ (pair rest : List ℕ) (parts : left ≡ pair ++ rest) (two : length pair ≡ 2) where
+      pub this_turn : Allowed (stage_count b.description) n reached (get_or pair 0 0) (get_or pair 1 0)
+      this_turn = pair_allowed (stage_count b.description) n reached left on.keeps pair rest parts two
 
-    pub this_turn : Allowed (stage_count b.description) n reached (get_or plan (2 * i) 0) (get_or plan (2 * i + 1) 0)
-    this_turn = turn_allowed (stage_count b.description) n reached plan i on.keeps here
+      pub within_block : get_or reached (get_or pair 0 0) 0 + get_or pair 1 0 ≤ n
+      within_block = omega (arith, this_turn.within, limit_le n reached (get_or pair 0 0) on.none-past)
 
-    pub within_block : get_or reached (get_or plan (2 * i) 0) 0 + get_or plan (2 * i + 1) 0 ≤ n
-    within_block = omega (arith, this_turn.within, limit_le n reached (get_or plan (2 * i) 0) on.none-past)
+      pub plan_goes_on : OnPlan b n rest (taken reached (get_or pair 0 0) (get_or pair 1 0))
+      plan_goes_on = record {
+        stages = length_taken reached (get_or pair 0 0) (get_or pair 1 0) ∙ on.stages;
+        keeps = pair_keeps (stage_count b.description) n reached left on.keeps pair rest parts two;
+        none-past = none-past_more this_turn on.stages on.none-past;
+      }
 
-    pub plan_goes_on : OnPlan b n plan (i + 1) (taken reached (get_or plan (2 * i) 0) (get_or plan (2 * i + 1) 0))
-    plan_goes_on = record {
-      stages = length_taken reached (get_or plan (2 * i) 0) (get_or plan (2 * i + 1) 0) ∙ on.stages;
-      keeps = rest_keeps (stage_count b.description) n reached plan i on.keeps here;
-      none-past = none-past_more this_turn on.stages on.none-past;
-    }
-
-  -- at the plan's end all stages stand at n
-  pub plan_over : {i : ℕ} {reached : List ℕ} → OnPlan b n plan i reached → length plan / 2 ≤ i → (k : ℕ) → k ≤ stage_count b.description → limit n reached k ≡ n
-  unfolding limit
-  plan_over on past zero h = refl
-  plan_over {i} {reached} on past (suc k) h =
-      all_reached (stage_count b.description) n reached plan i on.keeps
-      (⊎_elim (λ (l : length plan ≤ 2 * i). l) (λ (l : 2 * i < length plan). absurd (let q = whole_turn (stage_count b.description) n reached plan i on.keeps l in omega (arith, q, past))) (le_or_lt (length plan) (2 * i)))
-      k (omega (arith, h, on.stages))
+    -- at the plan's end all stages stand at n
+    pub plan_over : length left < 2 → (k : ℕ) → k ≤ stage_count b.description → limit n reached k ≡ n
+    unfolding limit
+    plan_over past zero h = refl
+    plan_over past (suc k) h = over_reached (stage_count b.description) n reached left on.keeps past k (omega (arith, h, on.stages))
 
   module _ {size : ℕ} (fit : Fit b n size) where
     first_limit : (reached : List ℕ) → reached ≡ replicate (stage_count b.description) 0 → (j : ℕ) → at_first b n j ≡ limit n reached j
@@ -92,6 +87,5 @@ module _ (b : Lent) (n : ℕ) (plan : List ℕ) where
       planned_goes_on =
           goes_on b fit k (get_or reached k 0) count way turn.there here_is turn.within done placed head_long array_long scratch_long (limit n (taken reached k count)) moved_is
 
-    pub planned_ends : {e : Changing} {i : ℕ} {reached : List ℕ} → UnderWay b n size e (limit n reached) → OnPlan b n plan i reached → length plan / 2 ≤ i
-        → Done b n e
+    pub planned_ends : {e : Changing} {left reached : List ℕ} → UnderWay b n size e (limit n reached) → OnPlan b n left reached → length left < 2 → Done b n e
     planned_ends way on past = ends b fit way (plan_over on past)

@@ -31,10 +31,9 @@ fn turns_in_order(
     ensures done { Done (lent sources.now buffers.old scratch.old) n (changed_by buffers.new scratch.new) }
     ensures same { SameBuffers buffers.old buffers.new }
 {
-    let turns = plan.len() / 2;
-    for i in 0..turns {
-        let k = plan[2 * i] as usize;
-        let count = plan[2 * i + 1] as usize;
+    for pair in plan.chunks_exact(2) {
+        let k = pair[0] as usize;
+        let count = pair[1] as usize;
         let from = reached[k];
         let span = Span {
             size,

@@ -1,15 +1,13 @@
--- Laws on a plan's rule: turn by turn, for a loop that goes over the plan. Turn i is the two numbers from place 2 i on. Assumes nothing.
-use mathlib.Core.Path.{◌≡◌, refl, sym, ◌∙◌}
+-- Laws on a plan's rule: turn by turn, for a loop that takes a plan's numbers two by two. Assumes nothing.
+use mathlib.Core.Path.{◌≡◌, refl, sym, ◌∙◌, ap}
 use mathlib.Core.Bool.{Bool, true, false, and-false, ◌&&◌}
-use mathlib.Core.List.{List, [], ◌∷◌}
-use mathlib.Core.Logic.{⊎_elim}
+use mathlib.Core.List.{List, [], ◌∷◌, ◌++◌}
 use Prim.Native.Nat.{ℕ, zero, suc, ◌+◌, ◌*◌, ◌≤◌, ◌<◌}
-use native.Mathlib.Nat.{eq-or-lt_of_le, not-suc-le-zero}
-use native.Mathlib.Numerals.{add-one}
+use native.Mathlib.Nat.{not-suc-le-zero}
 use native.Mathlib.Omega.{arith}
 use lib.Dec.{eqb, leb, ltb}
-use lib.ListN.{drop, drop_of_length-le, get_or, length, length-set, replicate}
-use lib.Seq.{drop-cons, get_or-set_other, get_or-set_same}
+use lib.ListN.{get_or, length, length-set, replicate}
+use lib.Seq.{get_or-set_other, get_or-set_same}
 use borrow.Author.Tests.{eqb-false, eqb-true, le-leb, leb-true, lt-ltb, ltb-true}
 use Rattle.turns.specs.Plan.{all_are, allows, keeps_from, keeps_rule, limit, taken}
 
@@ -110,54 +108,52 @@ module _ (stages n : ℕ) where
   odd_refused reached (stage ∷ count ∷ plan) (suc k) e =
       rw (odd_refused (taken reached stage count) plan k (omega arith)) (and-false (allows stages n reached stage count))
 
-  module _ (reached plan : List ℕ) (i : ℕ) where
-    -- one turn, and the rest
-    pub turn_is : 2 * i + 1 < length plan
-        → keeps_from stages n reached (drop (2 * i) plan)
-        ≡ (allows stages n reached (get_or plan (2 * i) 0) (get_or plan (2 * i + 1) 0)
-        && keeps_from stages n (taken reached (get_or plan (2 * i) 0) (get_or plan (2 * i + 1) 0)) (drop (2 * (i + 1)) plan))
-    unfolding keeps_from
-    turn_is lt =
-        let e : 2 * (i + 1) ≡ suc (suc (2 * i)) = omega arith in
-        rw (e, add-one (2 * i), drop-cons plan (2 * i) 0 (omega arith), drop-cons plan (suc (2 * i)) 0 (omega arith))
-
-    -- one number without its count
-    pub half_is : 2 * i + 1 ≡ length plan → keeps_from stages n reached (drop (2 * i) plan) ≡ false
-    unfolding keeps_from
-    half_is e =
-        rw (drop-cons plan (2 * i) 0 (omega arith), drop_of_length-le plan {i = suc (2 * i)} (omega arith))
-
-    -- the end
-    pub end_is : length plan ≤ 2 * i → keeps_from stages n reached (drop (2 * i) plan) ≡ all_are n reached
-    unfolding keeps_from
-    end_is le = rw (drop_of_length-le plan {i = 2 * i} le)
-
-    -- the same for a plan that keeps the rule
-    module _ (keeps : keeps_from stages n reached (drop (2 * i) plan) ≡ true) where
-      pub whole_turn : 2 * i < length plan → 2 * i + 1 < length plan
-      whole_turn lt =
-          ⊎_elim (λ q. no (sym (half_is (omega arith)) ∙ keeps)) (λ l. omega arith)
-          (eq-or-lt_of_le {n = suc (2 * i)} {m = length plan} lt)
-
-      pub turn_allows : 2 * i < length plan → allows stages n reached (get_or plan (2 * i) 0) (get_or plan (2 * i + 1) 0) ≡ true
-      turn_allows lt = left_true _ _ (sym (turn_is (whole_turn lt)) ∙ keeps)
-
-      pub turn_allowed : 2 * i < length plan → Allowed stages n reached (get_or plan (2 * i) 0) (get_or plan (2 * i + 1) 0)
-      turn_allowed lt = allowed stages n reached _ _ (turn_allows lt)
-
-      pub rest_keeps : 2 * i < length plan
-          → keeps_from stages n (taken reached (get_or plan (2 * i) 0) (get_or plan (2 * i + 1) 0)) (drop (2 * (i + 1)) plan) ≡ true
-      rest_keeps lt =
-          right_true (allows stages n reached (get_or plan (2 * i) 0) (get_or plan (2 * i + 1) 0)) _ (sym (turn_is (whole_turn lt)) ∙ keeps)
-
-      pub all_reached : length plan ≤ 2 * i → (k : ℕ) → k < length reached → get_or reached k 0 ≡ n
-      all_reached le k lt = all_are_each n reached (sym (end_is le) ∙ keeps) k lt
-
 -- where a loop over the plan begins
-pub rule_first : (stages n : ℕ) (plan : List ℕ) → keeps_rule stages n plan ≡ true → keeps_from stages n (replicate stages 0) (drop (2 * 0) plan) ≡ true
+pub rule_first : (stages n : ℕ) (plan : List ℕ) → keeps_rule stages n plan ≡ true → keeps_from stages n (replicate stages 0) plan ≡ true
 unfolding keeps_rule
 rule_first stages n plan e = e
 
 pub rule_even : (stages n : ℕ) (plan : List ℕ) (k : ℕ) → keeps_rule stages n plan ≡ true → length plan ≡ 2 * k + 1 → ⊥
 unfolding keeps_rule
 rule_even stages n plan k e odd = no (sym (odd_refused stages n (replicate stages 0) plan k odd) ∙ e)
+
+-- a walk that takes the plan's numbers two by two
+module _ (stages n : ℕ) (reached : List ℕ) where
+  -- one turn, and the rest
+  pub pair_is : (pair rest : List ℕ) → length pair ≡ 2
+      → keeps_from stages n reached (pair ++ rest)
+      ≡ (allows stages n reached (get_or pair 0 0) (get_or pair 1 0) && keeps_from stages n (taken reached (get_or pair 0 0) (get_or pair 1 0)) rest)
+  unfolding keeps_from
+  pair_is [] rest e = absurd (omega (arith, e))
+  pair_is (stage ∷ []) rest e = absurd (omega (arith, e))
+  pair_is (stage ∷ count ∷ []) rest e = refl
+  pair_is (stage ∷ count ∷ x ∷ xs) rest e = absurd (omega (arith, e))
+
+  -- no turn is left
+  pub over_is : (rest : List ℕ) (k : ℕ) → length rest < 2 → length rest ≡ 2 * k → keeps_from stages n reached rest ≡ all_are n reached
+  unfolding keeps_from
+  over_is [] k l e = refl
+  over_is (stage ∷ []) k l e = absurd (omega (arith, e))
+  over_is (stage ∷ count ∷ rest) k l e = absurd (omega (arith, l))
+
+  -- the same for a plan that keeps the rule
+  module _ (left : List ℕ) (keeps : keeps_from stages n reached left ≡ true) where
+    module _ (pair rest : List ℕ) (parts : left ≡ pair ++ rest) (two : length pair ≡ 2) where
+      turn_then : (allows stages n reached (get_or pair 0 0) (get_or pair 1 0) && keeps_from stages n (taken reached (get_or pair 0 0) (get_or pair 1 0)) rest) ≡ true
+      turn_then = sym (pair_is pair rest two) ∙ ap (keeps_from stages n reached) (sym parts) ∙ keeps
+
+      pub pair_allowed : Allowed stages n reached (get_or pair 0 0) (get_or pair 1 0)
+      pair_allowed = allowed stages n reached _ _ (left_true _ _ turn_then)
+
+      pub pair_keeps : keeps_from stages n (taken reached (get_or pair 0 0) (get_or pair 1 0)) rest ≡ true
+      pair_keeps = right_true (allows stages n reached (get_or pair 0 0) (get_or pair 1 0)) _ turn_then
+
+    -- no turn is left: one number alone would break the rule
+    all_over : (rest : List ℕ) → keeps_from stages n reached rest ≡ true → length rest < 2 → all_are n reached ≡ true
+    unfolding keeps_from
+    all_over [] k l = k
+    all_over (stage ∷ []) k l = no k
+    all_over (stage ∷ count ∷ rest) k l = absurd (omega (arith, l))
+
+    pub over_reached : length left < 2 → (k : ℕ) → k < length reached → get_or reached k 0 ≡ n
+    over_reached l k lt = all_are_each n reached (all_over left keeps l) k lt

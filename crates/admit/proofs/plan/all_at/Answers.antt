@@ -1,27 +1,9 @@
--- `all_at` meets its contract. The loop's invariant: the stages passed stand at n, so the rest decides (Turning).
-use mathlib.Core.Path.{◌∙◌, refl, sym}
-use native.Mathlib.Omega.{arith}
-use borrow.Author.Rules.{rules}
-use Rattle.admit.proofs.Turning.{stage_at, stage_off, stages_end}
+-- `all_at` is the definition's walk over the list.
+use Rattle.std.proofs.Common.{eqb, refl, rules}
+use Rattle.std.proofs.lemmas.List.Recursion.{and_is}
+use Rattle.turns.specs.Plan.{all_are}
 use Rattle.admit.proofs.plan.all_at.Goals as goal
 
-pub loop-k-init : goal.loop-k-init
-loop-k-init c = (search rules, search rules, refl)
-
-pub returns-then-reached-k : goal.returns-then-reached-k
-returns-then-reached-k c =
-    let args = c.args in
-    let l = c.loop-k in
-    stage_off args.n args.reached.now l.k (omega arith) c.if-reached-k.true ∙ sym l.invariant.2
-
-pub loop-k-preserved : goal.loop-k-preserved
-loop-k-preserved c =
-    let args = c.args in
-    let l = c.loop-k in
-    (search rules, search rules, l.invariant.2 ∙ stage_at args.n args.reached.now l.k (omega arith) c.if-reached-k.false)
-
 pub returns : goal.returns
-returns c =
-    let args = c.args in
-    let l = c.loop-k in
-    stages_end args.n args.reached.now l.k (omega arith) ∙ sym l.invariant.2
+unfolding all_are
+returns c = and_is (all_are c.args.n) (λ x. eqb x c.args.n) refl (λ _ _. refl) c.args.reached.now 0 _ (search rules) (search rules)

@@ -1,12 +1,11 @@
 use mathlib.Core.Path.{◌≡◌}
-use Prim.Native.Nat.{◌*◌, ◌-◌, ◌≤◌}
-use lib.ListN.{drop, length}
+use Prim.Native.Nat.{◌%◌}
+use lib.ListN.{length}
+use Rattle.std.specs.Slice.Iter.{chunks_exact_rest, chunks_exact_size}
 use Rattle.turns.specs.Plan.{keeps_from}
 use Rattle.admit.proofs.plan.walk.Given as goal
 
-abbrev pub invariant-loop-i : goal.invariant-loop-i
-invariant-loop-i l =
-    (l.i ≤ l.turns) × (l.numbers ≡ length l.plan) × (2 * l.turns ≡ l.numbers) × (length l.reached ≡ length l.initial.reached) × (keeps_from (length l.initial.reached) l.n l.reached (drop (2 * l.i) l.plan) ≡ keeps_from (length l.initial.reached) l.n l.initial.reached l.plan)
-
-abbrev pub decreases-loop-i : goal.decreases-loop-i
-decreases-loop-i l = l.turns - l.i
+abbrev pub invariant-loop-pair : goal.invariant-loop-pair
+invariant-loop-pair l =
+    (chunks_exact_size l.pair-iterator ≡ 2) × (length (chunks_exact_rest l.pair-iterator) % 2 ≡ 0) × (length l.reached ≡ length l.initial.reached)
+    × (keeps_from (length l.initial.reached) l.n l.reached (chunks_exact_rest l.pair-iterator) ≡ keeps_from (length l.initial.reached) l.n l.initial.reached l.plan)
