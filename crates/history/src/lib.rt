@@ -6,10 +6,11 @@
 ghost use Rattle.std.specs.Prelude.{◌≡◌, ℕ, ◌+◌, ◌-◌, ◌*◌, ◌≤◌, ◌<◌, length};
 ghost use Rattle.lists.specs.Tab.{at, fill, rows};
 ghost use Rattle.lists.specs.Region.{Apart};
-ghost use Rattle.ring.specs.Memory.{past, after, seen};
+ghost use Rattle.ring.specs.Memory.{push, past, after, seen};
+ghost use Rattle.ring.specs.Held.{held, Keeps};
 ghost use Rattle.history.specs.Fits.{StoreFits, FetchFits, CopyFits, GatherFits};
 
-use ring::Ring;
+use ring::{Memory, Ring};
 
 // One column of work, its channels stride apart, into the history from base on.
 fn store_apart(
@@ -47,28 +48,26 @@ fn store_column(
     }
 }
 
-// The n columns of a block, one after the other. The block's rows are stride apart from x on.
-pub fn store(
-    history: &mut [f32],
-    work: &[f32],
-    x: usize,
-    stride: usize,
-    ring: Ring,
-    ins: usize,
-    n: usize,
-) -> Ring
-    requires { StoreFits ring.at ring.len (length history.old) (length work.now) ins x stride n }
-    ensures { (record { history = history.new; place = result.at }
-        ≡ after ins ring.len (λ t j. at work.now (x + j * stride + t)) (record { history = history.old; place = ring.at }) n)
-        × (result.len ≡ ring.len) }
+// One column pushed: the place moves on, then the column is stored. Its channels are stride apart in work, from `from` on.
+fn push(memory: &mut Memory<'_>, work: &[f32], from: usize, stride: usize, ins: usize)
+    requires { StoreFits memory.old.ring.at memory.old.ring.len (length memory.old.history.now) (length work.now) ins from stride 1 }
+    ensures kept { Keeps memory.old memory.new }
+    ensures pushed { held memory.new ≡ push ins memory.old.ring.len (held memory.old) (λ j. at work.now (from + j * stride)) }
 {
-    let mut place = ring;
+    let next = memory.ring.next();
+    store_column(memory.history, work, next.at * ins, from, stride, ins);
+    memory.ring = next;
+}
+
+// The n columns of a block, one after the other. The block's rows are stride apart from x on.
+pub fn store(memory: &mut Memory<'_>, work: &[f32], x: usize, stride: usize, ins: usize, n: usize)
+    requires { StoreFits memory.old.ring.at memory.old.ring.len (length memory.old.history.now) (length work.now) ins x stride n }
+    ensures kept { Keeps memory.old memory.new }
+    ensures stored { held memory.new ≡ after ins memory.old.ring.len (λ t j. at work.now (x + j * stride + t)) (held memory.old) n }
+{
     for column in 0..n {
-        place = place.next();
-        let at = place.at;
-        store_column(history, work, at * ins, x + column, stride, ins);
+        push(memory, work, x + column, stride, ins);
     }
-    place
 }
 
 // One column of the history, from base on, into work, its channels stride apart.
@@ -91,25 +90,23 @@ fn fetch_column(
 // The n columns of the history from the one `back` columns before the next on.
 fn fetch(
     work: &mut [f32],
-    history: &[f32],
+    memory: &Memory<'_>,
     to: usize,
     stride: usize,
-    ring: Ring,
     ins: usize,
     back: usize,
     n: usize,
 )
-    requires { FetchFits ring.at ring.len (length history.now) (length work.old) ins to stride back n }
-    ensures { work.new ≡ rows to stride n ins
-        (λ j t. past ins ring.len (record { history = history.now; place = ring.at }) j (back - t - 1)) work.old }
+    requires { FetchFits memory.now.ring.at memory.now.ring.len (length memory.now.history.now) (length work.old) ins to stride back n }
+    ensures { work.new ≡ rows to stride n ins (λ j t. past ins memory.now.ring.len (held memory.now) j (back - t - 1)) work.old }
 {
-    let len = ring.len;
-    let first = ring.back(back);
+    let len = memory.ring.len;
+    let first = memory.ring.back(back);
     let mut place = Ring { at: first, len };
     for t in 0..n {
         place = place.next();
         let at = place.at;
-        fetch_column(work, history, to + t, stride, at * ins, ins);
+        fetch_column(work, memory.history, to + t, stride, at * ins, ins);
     }
 }
 
@@ -144,21 +141,19 @@ fn copy_rows(
 // What stands `back` columns back from each of the n columns of a block: those before the block out of the history, the rest out of the block.
 pub fn gather(
     work: &mut [f32],
-    history: &[f32],
+    memory: &Memory<'_>,
     to: usize,
     x: usize,
     stride: usize,
-    ring: Ring,
     ins: usize,
     back: usize,
     n: usize,
 )
-    requires { GatherFits ring.at ring.len (length history.now) (length work.old) ins to x stride back n }
+    requires { GatherFits memory.now.ring.at memory.now.ring.len (length memory.now.history.now) (length work.old) ins to x stride back n }
     ensures { work.new ≡ rows to n n ins
-        (λ c t. seen (λ i. at work.old (x + c * stride + i)) (past ins ring.len (record { history = history.now; place = ring.at }) c) back t)
-        work.old }
+        (λ c t. seen (λ i. at work.old (x + c * stride + i)) (past ins memory.now.ring.len (held memory.now) c) back t) work.old }
 {
     let before = back.min(n);
-    fetch(work, history, to, n, ring, ins, back, before);
+    fetch(work, memory, to, n, ins, back, before);
     copy_rows(work, to + before, n, x, stride, ins, n - before);
 }

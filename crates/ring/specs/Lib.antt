@@ -1,3 +1,4 @@
 pub mod Place
 pub mod Moved
 pub mod Memory
+pub mod Held

@@ -13,6 +13,13 @@ pub struct Ring {
     pub len: usize,
 }
 
+// What a convolution remembers: its history, and the place in it of the column pushed last.
+#[derive(Drop)]
+pub struct Memory<'a> {
+    pub history: &'a mut [f32],
+    pub ring: Ring,
+}
+
 impl Ring {
     // The next place.
     pub fn next(self) -> Ring
