@@ -12,6 +12,13 @@ ghost use Rattle.history.specs.Fits.{StoreFits, FetchFits, CopyFits, GatherFits}
 
 use ring::{Memory, Ring};
 
+// Where the rows of a block lie in work: row c, which is channel c of each column, begins at first + c * stride.
+#[derive(Clone, Copy)]
+pub struct Rows {
+    pub first: usize,
+    pub stride: usize,
+}
+
 // One column of work, its channels stride apart, into the history from base on.
 fn store_apart(
     history: &mut [f32],
@@ -48,65 +55,59 @@ fn store_column(
     }
 }
 
-// One column pushed: the place moves on, then the column is stored. Its channels are stride apart in work, from `from` on.
-fn push(memory: &mut Memory<'_>, work: &[f32], from: usize, stride: usize, ins: usize)
-    requires { StoreFits memory.old.ring.at memory.old.ring.len (length memory.old.history.now) (length work.now) ins from stride 1 }
+// One column pushed: the place moves on, then the column is stored.
+fn push(memory: &mut Memory<'_>, work: &[f32], column: Rows, ins: usize)
+    requires { StoreFits memory.old.ring.at memory.old.ring.len (length memory.old.history.now) (length work.now) ins column.first column.stride 1 }
     ensures kept { Keeps memory.old memory.new }
-    ensures pushed { held memory.new ≡ push ins memory.old.ring.len (held memory.old) (λ j. at work.now (from + j * stride)) }
+    ensures pushed { held memory.new ≡ push ins memory.old.ring.len (held memory.old) (λ j. at work.now (column.first + j * column.stride)) }
 {
     let next = memory.ring.next();
-    store_column(memory.history, work, next.at * ins, from, stride, ins);
+    let base = next.at * ins;
+    store_column(memory.history, work, base, column.first, column.stride, ins);
     memory.ring = next;
 }
 
-// The n columns of a block, one after the other. The block's rows are stride apart from x on.
-pub fn store(memory: &mut Memory<'_>, work: &[f32], x: usize, stride: usize, ins: usize, n: usize)
-    requires { StoreFits memory.old.ring.at memory.old.ring.len (length memory.old.history.now) (length work.now) ins x stride n }
+// The n columns of a block, one after the other.
+pub fn store(memory: &mut Memory<'_>, work: &[f32], block: Rows, ins: usize, n: usize)
+    requires { StoreFits memory.old.ring.at memory.old.ring.len (length memory.old.history.now) (length work.now) ins block.first block.stride n }
     ensures kept { Keeps memory.old memory.new }
-    ensures stored { held memory.new ≡ after ins memory.old.ring.len (λ t j. at work.now (x + j * stride + t)) (held memory.old) n }
+    ensures stored { held memory.new ≡ after ins memory.old.ring.len (λ t j. at work.now (block.first + j * block.stride + t)) (held memory.old) n }
 {
+    let stride = block.stride;
     for column in 0..n {
-        push(memory, work, x + column, stride, ins);
+        let first = block.first + column;
+        push(memory, work, Rows { first, stride }, ins);
     }
 }
 
-// One column of the history, from base on, into work, its channels stride apart.
-fn fetch_column(
-    work: &mut [f32],
-    history: &[f32],
-    to: usize,
-    stride: usize,
-    base: usize,
-    ins: usize,
-)
-    requires { (base + ins ≤ length history.now) × ((j : ℕ) → j < ins → to + j * stride < length work.old) }
-    ensures { work.new ≡ rows to stride 1 ins (λ j t. at history.now (base + j)) work.old }
+// One column of the history, from base on, into work.
+fn fetch_column(work: &mut [f32], history: &[f32], to: Rows, base: usize, ins: usize)
+    requires { (base + ins ≤ length history.now) × ((j : ℕ) → j < ins → to.first + j * to.stride < length work.old) }
+    ensures { work.new ≡ rows to.first to.stride 1 ins (λ j t. at history.now (base + j)) work.old }
 {
+    let first = to.first;
+    let stride = to.stride;
     for j in 0..ins {
-        work[to + j * stride] = history[base + j];
+        work[first + j * stride] = history[base + j];
     }
 }
 
 // The n columns of the history from the one `back` columns before the next on.
-fn fetch(
-    work: &mut [f32],
-    memory: &Memory<'_>,
-    to: usize,
-    stride: usize,
-    ins: usize,
-    back: usize,
-    n: usize,
-)
-    requires { FetchFits memory.now.ring.at memory.now.ring.len (length memory.now.history.now) (length work.old) ins to stride back n }
-    ensures { work.new ≡ rows to stride n ins (λ j t. past ins memory.now.ring.len (held memory.now) j (back - t - 1)) work.old }
+fn fetch(work: &mut [f32], memory: &Memory<'_>, to: Rows, ins: usize, back: usize, n: usize)
+    requires { FetchFits memory.now.ring.at memory.now.ring.len (length memory.now.history.now) (length work.old) ins to.first to.stride back n }
+    ensures { work.new ≡ rows to.first to.stride n ins (λ j t. past ins memory.now.ring.len (held memory.now) j (back - t - 1)) work.old }
 {
     let len = memory.ring.len;
-    let first = memory.ring.back(back);
-    let mut place = Ring { at: first, len };
+    let stride = to.stride;
+    let mut place = Ring {
+        at: memory.ring.back(back),
+        len,
+    };
     for t in 0..n {
         place = place.next();
-        let at = place.at;
-        fetch_column(work, memory.history, to + t, stride, at * ins, ins);
+        let first = to.first + t;
+        let base = place.at * ins;
+        fetch_column(work, memory.history, Rows { first, stride }, base, ins);
     }
 }
 
@@ -120,40 +121,48 @@ fn copy(work: &mut [f32], to: usize, from: usize, n: usize)
     }
 }
 
-// The first n numbers of each of w rows, which are stride apart, to rows that are step apart.
-fn copy_rows(
-    work: &mut [f32],
-    to: usize,
-    step: usize,
-    from: usize,
-    stride: usize,
-    w: usize,
-    n: usize,
-)
-    requires { CopyFits (length work.old) to step from stride w n }
-    ensures { work.new ≡ rows to step n w (λ c t. at work.old (from + c * stride + t)) work.old }
+// The first n numbers of each of w rows.
+fn copy_rows(work: &mut [f32], to: Rows, from: Rows, w: usize, n: usize)
+    requires { CopyFits (length work.old) to.first to.stride from.first from.stride w n }
+    ensures { work.new ≡ rows to.first to.stride n w (λ c t. at work.old (from.first + c * from.stride + t)) work.old }
 {
     for c in 0..w {
-        copy(work, to + c * step, from + c * stride, n);
+        copy(
+            work,
+            to.first + c * to.stride,
+            from.first + c * from.stride,
+            n,
+        );
     }
 }
 
-// What stands `back` columns back from each of the n columns of a block: those before the block out of the history, the rest out of the block.
+// What stands `back` columns back from each of the n columns of a block: those before the block out of the history, the rest out of the block. The
+// gathered rows stand next to each other from `to` on.
 pub fn gather(
     work: &mut [f32],
     memory: &Memory<'_>,
     to: usize,
-    x: usize,
-    stride: usize,
+    block: Rows,
     ins: usize,
     back: usize,
     n: usize,
 )
-    requires { GatherFits memory.now.ring.at memory.now.ring.len (length memory.now.history.now) (length work.old) ins to x stride back n }
+    requires { GatherFits memory.now.ring.at memory.now.ring.len (length memory.now.history.now) (length work.old) ins to block.first block.stride back n }
     ensures { work.new ≡ rows to n n ins
-        (λ c t. seen (λ i. at work.old (x + c * stride + i)) (past ins memory.now.ring.len (held memory.now) c) back t) work.old }
+        (λ c t. seen (λ i. at work.old (block.first + c * block.stride + i)) (past ins memory.now.ring.len (held memory.now) c) back t) work.old }
 {
     let before = back.min(n);
-    fetch(work, memory, to, n, ins, back, before);
-    copy_rows(work, to + before, n, x, stride, ins, n - before);
+    let first = to + before;
+    fetch(
+        work,
+        memory,
+        Rows {
+            first: to,
+            stride: n,
+        },
+        ins,
+        back,
+        before,
+    );
+    copy_rows(work, Rows { first, stride: n }, block, ins, n - before);
 }

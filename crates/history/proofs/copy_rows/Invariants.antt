@@ -7,8 +7,8 @@ use Rattle.history.proofs.copy_rows.Given as goal
 
 abbrev pub invariant-loop-c : goal.invariant-loop-c
 invariant-loop-c l =
-    (l.c ≤ l.w) × (length l.work ≡ length l.initial.work) × CopyFits (length l.initial.work) l.to l.step l.from l.stride l.w l.n
-    × (l.work ≡ rows l.to l.step l.n l.c (λ c t. at l.initial.work (l.from + c * l.stride + t)) l.initial.work)
+    (l.c ≤ l.w) × (length l.work ≡ length l.initial.work) × CopyFits (length l.initial.work) l.to.first l.to.stride l.from.first l.from.stride l.w l.n
+    × (l.work ≡ rows l.to.first l.to.stride l.n l.c (λ c t. at l.initial.work (l.from.first + c * l.from.stride + t)) l.initial.work)
 
 abbrev pub decreases-loop-c : goal.decreases-loop-c
 decreases-loop-c l = l.w - l.c

@@ -15,7 +15,7 @@ pub loop-t-init : goal.loop-t-init
 loop-t-init c =
     let ring = c.args.memory.now.ring in
     let none : c.args.back ≡ c.args.back - 0 = omega arith in
-    (search rules, search rules, search rules, c.back-first.ensures ∙ ap (λ (k : ℕ). place_back ring.len ring.at k) none, rows_narrow _ _ _ _ _)
+    (search rules, search rules, search rules, c.back.ensures ∙ ap (λ (k : ℕ). place_back ring.len ring.at k) none, rows_narrow _ _ _ _ _)
 
 pub next-place-requires : goal.next-place-requires
 next-place-requires c =
@@ -23,8 +23,8 @@ next-place-requires c =
     let f = c.requires in
     rw (c.loop-t.invariant.2, c.loop-t.invariant.3) (back_lt ring.len ring.at (c.args.back - c.loop-t.t) f.place_in (omega (arith, f.back_in)))
 
-pub overflow_mul-at : goal.overflow_mul-at
-overflow_mul-at c =
+pub overflow_mul-base : goal.overflow_mul-base
+overflow_mul-base c =
     let ring = c.args.memory.now.ring in
     let f = c.requires in
     let l = c.loop-t in
@@ -42,7 +42,7 @@ fetch_column-requires c =
     let q = fetch_place ring.len ring.at c.args.back l.t l.place.at _ f.place_in f.back_in (omega (arith, f.before, c.loop-t-test.true)) l.invariant.3 to in
     let lt : c.next-place.result.at < ring.len = rw q (back_lt ring.len ring.at _ f.place_in (omega (arith, f.back_in))) in (
       omega (arith, column_end c.args.ins ring.len c.next-place.result.at _ lt f.history_is),
-      λ j hj. omega (arith, f.rows_in, f.narrow, row_end j c.args.ins c.args.stride hj, l.invariant.1, c.loop-t-test.true),
+      λ j hj. omega (arith, f.rows_in, f.narrow, row_end j c.args.ins c.args.to.stride hj, l.invariant.1, c.loop-t-test.true),
     )
 
 pub loop-t-preserved : goal.loop-t-preserved

@@ -11,7 +11,7 @@ abbrev pub invariant-loop-t : goal.invariant-loop-t
 invariant-loop-t l =
     (l.t ≤ l.n) × (length l.work ≡ length l.initial.work) × (l.place.len ≡ l.memory.ring.len)
     × (l.place.at ≡ place_back l.memory.ring.len l.memory.ring.at (l.back - l.t))
-    × (l.work ≡ rows l.to l.stride l.t l.ins (λ j t. past l.ins l.memory.ring.len (held l.memory) j (l.back - t - 1)) l.initial.work)
+    × (l.work ≡ rows l.to.first l.to.stride l.t l.ins (λ j t. past l.ins l.memory.ring.len (held l.memory) j (l.back - t - 1)) l.initial.work)
 
 abbrev pub decreases-loop-t : goal.decreases-loop-t
 decreases-loop-t l = l.n - l.t

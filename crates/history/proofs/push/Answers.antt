@@ -9,8 +9,8 @@ use Rattle.ring.proofs.Places.{next_lt}
 use Rattle.history.proofs.Turns.{column_end}
 use Rattle.history.proofs.push.Goals as goal
 
-pub overflow_mul-next : goal.overflow_mul-next
-overflow_mul-next c =
+pub overflow_mul-base : goal.overflow_mul-base
+overflow_mul-base c =
     let ring = c.args.memory.now.ring in
     let to : c.next-next.result.at ≡ next_place ring.len ring.at = ap (λ (r : Ring). r.at) c.next-next.ensures in
     let lt : c.next-next.result.at < ring.len = rw to (next_lt ring.len ring.at c.requires.place_in) in

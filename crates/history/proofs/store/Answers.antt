@@ -20,7 +20,7 @@ loop-column-preserved c =
     let args = c.args in
     let loop = c.loop-column in
     let push = c.push.ensures in
-    let same : (j : ℕ) → args.x + loop.column + j * args.stride ≡ args.x + j * args.stride + loop.column = λ j. omega arith in (
+    let same : (j : ℕ) → args.block.first + loop.column + j * args.block.stride ≡ args.block.first + j * args.block.stride + loop.column = λ j. omega arith in (
       search rules,
       (push.kept.0 ∙ loop.invariant.1.0, push.kept.1 ∙ loop.invariant.1.1),
       store_turn _ _ loop.column _ _ (held loop.memory) _ _ loop.invariant.2 (rw (sym loop.invariant.1.1) push.pushed) (λ j hj. ap (at args.work.now) (same j)),
