@@ -59,6 +59,10 @@ taps_ext sh weights v u o start h (suc k) = rw (taps_ext sh weights v u o start 
 pub lane_weight : (o i j k ipg kernel : ℕ) → o * (ipg * kernel) + k + i * (ipg * kernel) + j * kernel ≡ ((o + i) * ipg + j) * kernel + k
 lane_weight o i j k ipg kernel = rw (sym (mul_assoc o ipg kernel), sym (mul_assoc i ipg kernel)) (omega arith)
 
+-- the column that tap k reads, as the code finds its place
+pub column_found : (sh : Shape) (len place k : ℕ) {back column : ℕ} → back ≡ steps_back sh k → column ≡ place_back len place back → column ≡ place_back len place (steps_back sh k)
+column_found sh len place k e h = rw (sym e) h
+
 -- ---- what n outputs of group g read out of the history at tap k, as the code has it: inputs per group, the column's place
 module _ {sh : Shape} {place len nhistory nweights g o n ipg : ℕ} (f : PartsFit sh place len nhistory nweights) (h : GroupFits sh g o n)
     (e : ipg ≡ inputs_per_group sh) where

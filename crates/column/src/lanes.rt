@@ -5,21 +5,21 @@ ghost use Rattle.std.specs.Float.Ieee.{of_bits};
 ghost use Rattle.std.specs.Float.{binary32};
 ghost use Rattle.lists.specs.Tab.{at, tab};
 ghost use Rattle.ring.specs.Memory.{past};
+ghost use Rattle.ring.specs.Held.{held};
 ghost use Rattle.shape.specs.Counts.{ring_length};
 ghost use Rattle.column.specs.Recurrence.{taps_from};
-ghost use Rattle.column.specs.Fits.{PartsFit, GroupFits};
+ghost use Rattle.column.specs.Fits.{FilterFits, GroupFits};
 
-use crate::steps_back;
-use ring::Ring;
-use shape::Shape;
+use crate::Filter;
+use ring::Memory;
 
-// What the sums of L outputs start at.
-pub fn start<const L: usize>(weights: &[f32], biased: bool, from: usize) -> [f32; L]
-    requires { biased ≡ true → from + L ≤ length weights.now }
-    ensures { result ≡ tab L (λ i. cond biased (at weights.now (from + i)) (of_bits binary32 0)) }
+// What the sums of L outputs start at, whose biases are the weights from `from` on.
+pub fn start<const L: usize>(filter: &Filter<'_>, from: usize) -> [f32; L]
+    requires { filter.now.shape.biased ≡ true → from + L ≤ length filter.now.weights.now }
+    ensures { result ≡ tab L (λ i. cond filter.now.shape.biased (at filter.now.weights.now (from + i)) (of_bits binary32 0)) }
 {
-    if biased {
-        sums::lanes::load(weights, from)
+    if filter.shape.biased {
+        sums::lanes::load(filter.weights, from)
     } else {
         [0.0f32; L]
     }
@@ -28,31 +28,29 @@ pub fn start<const L: usize>(weights: &[f32], biased: bool, from: usize) -> [f32
 // All taps of the L outputs from o on, which are of group g, onto their sums. Read out of the history, where the column was pushed.
 pub fn taps<const L: usize>(
     sums: [f32; L],
-    history: &[f32],
-    weights: &[f32],
-    ring: Ring,
-    sh: Shape,
+    memory: &Memory<'_>,
+    filter: &Filter<'_>,
     g: usize,
     o: usize,
 ) -> [f32; L]
-    requires { PartsFit sh ring.at ring.len (length history.now) (length weights.now) × GroupFits sh g o L × (0 < L) }
-    ensures { result ≡ tab L (λ i. taps_from sh weights.now
-        (past sh.ins (ring_length sh) (record { history = history.now; place = ring.at })) (o + i) sh.kernel (at sums.entry i)) }
+    requires { FilterFits filter.now memory.now × GroupFits filter.now.shape g o L × (0 < L) }
+    ensures { result ≡ tab L (λ i. taps_from filter.now.shape filter.now.weights.now
+        (past filter.now.shape.ins (ring_length filter.now.shape) (held memory.now)) (o + i) filter.now.shape.kernel (at sums.entry i)) }
 {
-    let ins = sh.ins;
-    let kernel = sh.kernel;
-    let ipg = sh.inputs_per_group();
+    let ins = filter.shape.ins;
+    let kernel = filter.shape.kernel;
+    let ipg = filter.shape.inputs_per_group();
     let base = g * ipg;
     let between = ipg * kernel;
     let w = o * between;
     let mut r = sums;
     for k in 0..kernel {
-        let back = steps_back(sh, k);
-        let column = ring.back(back);
+        let back = filter.steps_back(k);
+        let column = memory.ring.back(back);
         let more = sums::lanes::add_outputs(
             r,
-            history,
-            weights,
+            memory.history,
+            filter.weights,
             column * ins + base,
             w + k,
             between,

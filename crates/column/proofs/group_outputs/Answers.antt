@@ -56,7 +56,7 @@ loop-i-preserved c =
     let next = c.next_outputs-i in (
       omega (arith, next.ensures.taken.1, c.loop-i-test.true),
       omega (arith, next.auto.work, loop.invariant.1),
-      outputs_turn args.sh args.weights.now _ args.work.now loop.work _ _ _ _ loop.i next.result loop.invariant.2 next.ensures.done,
+      outputs_turn args.filter.now.shape args.filter.now.weights.now _ args.work.now loop.work _ _ _ _ loop.i next.result loop.invariant.2 next.ensures.done,
     )
 
 pub returns : goal.returns

@@ -12,7 +12,7 @@ use Rattle.column.proofs.outputs.Goals as goal
 pub loop-g-init : goal.loop-g-init
 loop-g-init c =
     let args = c.args in
-    let none : 0 * outputs_per_group args.sh ≡ 0 = omega arith in (search rules, search rules, rw none (rows_none _ _ _ _ _))
+    let none : 0 * outputs_per_group args.filter.now.shape ≡ 0 = omega arith in (search rules, search rules, rw none (rows_none _ _ _ _ _))
 
 pub group_outputs-requires : goal.group_outputs-requires
 group_outputs-requires c =
@@ -26,7 +26,7 @@ loop-g-preserved c =
     let group-outputs = c.group_outputs in (
       search rules,
       omega (arith, group-outputs.auto.work, loop.invariant.1),
-      groups_turn args.sh args.weights.now _ _ loop.work _ _ _ loop.g _ loop.invariant.2 group-outputs.ensures,
+      groups_turn args.filter.now.shape args.filter.now.weights.now _ _ loop.work _ _ _ loop.g _ loop.invariant.2 group-outputs.ensures,
     )
 
 pub returns : goal.returns
@@ -34,6 +34,6 @@ returns c =
     let args = c.args in
     let pre = c.requires in
     let loop = c.loop-g in
-    let e : loop.g ≡ args.sh.groups = omega arith in
-    let all : loop.g * outputs_per_group args.sh ≡ args.sh.outs = rw e (sym (outs_are pre.0.divided)) in
+    let e : loop.g ≡ args.filter.now.shape.groups = omega arith in
+    let all : loop.g * outputs_per_group args.filter.now.shape ≡ args.filter.now.shape.outs = rw e (sym (outs_are pre.0.divided)) in
     rw all at loop.invariant.2

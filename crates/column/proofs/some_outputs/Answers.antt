@@ -18,7 +18,7 @@ start-begun-requires g c =
     let pre = c.requires in
     let f = pre.0 in
     let end = group_end f.divided f.range c.args.g pre.1.group_in in
-    (search rules, λ b. omega (arith, c.kernel_count.ensures, bias_in c.args.sh (c.args.o + g.row.L) _ f.weights_is (omega (arith, end, pre.1.high)) b))
+    (search rules, λ b. omega (arith, c.kernel_count.ensures, bias_in c.args.filter.now.shape (c.args.o + g.row.L) _ f.weights_is (omega (arith, end, pre.1.high)) b))
 
 pub taps-sums-requires : goal.taps-sums-requires
 taps-sums-requires g c =
@@ -48,4 +48,4 @@ put-requires g c =
 pub returns : goal.returns
 returns g c =
     let args = c.args in
-    lanes_are args.sh args.weights.now _ g.row.L _ _ args.o _ _ _ _ _ c.kernel_count.ensures c.start-begun.ensures c.taps-sums.ensures c.put.ensures
+    lanes_are args.filter.now.shape args.filter.now.weights.now _ g.row.L _ _ args.o _ _ _ _ _ c.kernel_count.ensures c.start-begun.ensures c.taps-sums.ensures c.put.ensures
