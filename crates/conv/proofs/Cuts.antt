@@ -19,7 +19,7 @@ use Rattle.column.specs.Recurrence.{output, remembered}
 use Rattle.conv.specs.Fits.{ConvFits, BlockFits}
 use Rattle.conv.specs.Does.{Convolved, Played}
 use Rattle.column.proofs.OneColumn.{parts_after}
-use Rattle.conv.proofs.Block.{column_is}
+use Rattle.conv.proofs.Blocks.{column_is}
 
 -- the first t columns are done
 pub record Begun (sh : Shape) (weights : List Float) (m t x out rows : ℕ) (old : List Float) (s : Memory) (work : List Float) (s' : Memory) : Type 0 where

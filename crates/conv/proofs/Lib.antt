@@ -1,3 +1,3 @@
 pub mod Rows
-pub mod Block
+pub mod Blocks
 pub mod Cuts

@@ -3,10 +3,14 @@ use Rattle.std.specs.Prelude.{◌≡◌, List, ℕ, suc, ◌+◌, ◌*◌, ◌<�
 use Rattle.std.specs.Float.{nan}
 use Rattle.lists.specs.Tab.{at}
 use Rattle.lists.specs.Region.{Apart, Beside, Holds, Strip, Free}
+use Rattle.ring.specs.declared.Memory.{Memory as Holder}
 use Rattle.ring.specs.Memory.{Memory, past, seen}
+use Rattle.ring.specs.Held.{held}
 use Rattle.shape.specs.declared.Shape.{Shape}
 use Rattle.shape.specs.Counts.{ring_length}
+use Rattle.column.specs.declared.Filter.{Filter}
 use Rattle.column.specs.Recurrence.{tap_from, taps_from, output, remembered}
+use Rattle.conv.specs.declared.Block.{Block}
 
 -- a whole block, from memory s to s', whichever columns f the region at x held: each column pushed, then its outputs taken. All other work but the
 -- region at rows is as it was
@@ -42,3 +46,12 @@ pub record Cut (left n : ℕ) : Type 0 where
   pub some : 0 < n
   pub within : n ≤ left
   pub whole : (n ≡ 1 → ⊥) → n % 16 ≡ 0
+
+-- ---- the same of the code's structs
+
+abbrev pub Convolves : Filter → Block → List Float → Holder → List Float → Holder → Type 0
+Convolves f b work s work' s' = Convolved f.shape f.weights.now b.columns b.x b.out b.rows work (held s) work' (held s')
+
+-- of a part of a block whose rows are `stride` apart
+abbrev pub Plays : Filter → Block → ℕ → List Float → Holder → List Float → Holder → Type 0
+Plays f b stride work s work' s' = Played f.shape f.weights.now stride b.columns b.x b.out b.rows work (held s) work' (held s')

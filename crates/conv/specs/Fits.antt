@@ -1,10 +1,13 @@
 -- What the sizes and places of a convolution have to be. Numbers of work, history and weights are lengths.
-use Rattle.std.specs.Prelude.{◌≡◌, ℕ, ◌+◌, ◌*◌, ◌%◌, ◌≤◌, ◌<◌}
+use Rattle.std.specs.Prelude.{◌≡◌, ℕ, ◌+◌, ◌*◌, ◌%◌, ◌≤◌, ◌<◌, length}
 use Rattle.lists.specs.Region.{Apart}
+use Rattle.ring.specs.declared.Memory.{Memory}
 use Rattle.shape.specs.declared.Shape.{Shape}
 use Rattle.shape.specs.Counts.{InRange, weight_count}
 use Rattle.shape.specs.Groups.{Divided}
+use Rattle.column.specs.declared.Filter.{Filter}
 use Rattle.column.specs.Fits.{PartsFit}
+use Rattle.conv.specs.declared.Block.{Block}
 
 -- regions of m columns: the input at x, the output at out, and at rows one that is used up
 pub record ConvFits (sh : Shape) (at len m nwork nhistory nweights x out rows : ℕ) : Type 0 where
@@ -40,3 +43,12 @@ pub record TapFits (sh : Shape) (nwork nweights out m from stride n k : ℕ) : T
   pub from_in : (c : ℕ) → c < sh.ins → from + c * stride + n ≤ nwork
   pub apart : (o c : ℕ) → o < sh.outs → c < sh.ins → Apart (out + o * m) n (from + c * stride) n
   pub narrow : n ≤ m
+
+-- ---- the same of the code's structs
+
+abbrev pub WholeFits : Filter → Memory → Block → ℕ → Type 0
+WholeFits f m b nwork = ConvFits f.shape m.ring.at m.ring.len b.columns nwork (length m.history.now) (length f.weights.now) b.x b.out b.rows
+
+-- of a part of a block whose rows are `stride` apart
+abbrev pub PartFits : Filter → Memory → Block → ℕ → ℕ → Type 0
+PartFits f m b stride nwork = BlockFits f.shape m.ring.at m.ring.len stride b.columns nwork (length m.history.now) (length f.weights.now) b.x b.out b.rows

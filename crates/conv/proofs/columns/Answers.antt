@@ -1,32 +1,20 @@
 -- Started, tapped and stored is the recurrence, by `columns_are`.
 use mathlib.Core.Path.{refl}
 use native.Mathlib.Omega.{arith}
-use Rattle.conv.proofs.Block.{store_fits, columns_are}
+use Rattle.conv.proofs.Blocks.{store_fits, columns_are}
 use Rattle.conv.proofs.columns.Goals as goal
 
 pub start-requires : goal.start-requires
 start-requires c =
-    let pre = c.requires in
-    (pre.0.parts.range, pre.0.parts.divided, pre.0.parts.weights_is, pre.0.out_in)
+    let f = c.requires.0 in
+    (f.parts.range, f.parts.divided, f.parts.weights_is, f.out_in)
 
 pub taps-requires : goal.taps-requires
-taps-requires c =
-    let pre = c.requires in
-    let start = c.start in
-    (rw start.auto.work pre.0, pre.1)
+taps-requires c = (rw c.start.auto.work c.requires.0, c.requires.1)
 
 pub store-requires : goal.store-requires
-store-requires c =
-    let pre = c.requires in
-    let start = c.start in
-    let taps = c.taps in
-    store_fits pre.0 _ (omega (arith, taps.auto.work, start.auto.work))
+store-requires c = store_fits c.requires.0 _ (omega (arith, c.taps.auto.work, c.start.auto.work))
 
-pub returns : goal.returns
-returns c =
-    let pre = c.requires in
-    let args = c.args in
-    let start = c.start in
-    let taps = c.taps in
-    let store = c.store in
-    (columns_are pre.0 _ args.work.now args.history.now _ _ _ _ refl refl start.ensures taps.ensures store.ensures.0, store.ensures.1)
+pub returns-clause-done : goal.returns-clause-done
+returns-clause-done c =
+    columns_are c.requires.0 _ c.args.work.now c.args.memory.now.history.now _ _ _ _ refl refl c.start.ensures c.taps.ensures c.store.ensures.stored

@@ -1,6 +1,6 @@
 -- Both ways the tap reads what it should see: `tapped_here`, `tapped_rows`.
 use mathlib.Core.Path.{refl, sym, ◌∙◌}
-use Rattle.conv.proofs.Block.{block_tap_fits, rows_tap_fits, gather_fits, tapped_here, tapped_rows}
+use Rattle.conv.proofs.Blocks.{block_tap_fits, rows_tap_fits, gather_fits, tapped_here, tapped_rows}
 use Rattle.conv.proofs.read_tap.Goals as goal
 
 pub steps_back-back-requires : goal.steps_back-back-requires
@@ -35,7 +35,7 @@ returns-then-in_place c =
     let steps_back = c.steps_back-back in
     let in_place = c.in_place in
     let if1 = c.if-in_place in
-    tapped_here pre.0 args.weights.now args.work.now _ args.k refl _ (sym steps_back.ensures ∙ in_place.ensures if1.true) c.tap.ensures
+    tapped_here pre.0 args.filter.now.weights.now args.work.now _ args.k refl _ (sym steps_back.ensures ∙ in_place.ensures if1.true) c.tap.ensures
 
 pub returns-else-in_place : goal.returns-else-in_place
 returns-else-in_place c =
@@ -43,4 +43,4 @@ returns-else-in_place c =
     let args = c.args in
     let steps_back = c.steps_back-back in
     let gather = c.gather in
-    tapped_rows pre.0 args.weights.now args.work.now _ args.k refl _ _ _ steps_back.ensures gather.ensures c.tap-else-in_place.ensures
+    tapped_rows pre.0 args.filter.now.weights.now args.work.now _ args.k refl _ _ _ steps_back.ensures gather.ensures c.tap-else-in_place.ensures

@@ -24,7 +24,7 @@ pub bias-b-requires : goal.bias-b-requires
 bias-b-requires c =
     let args = c.args in
     let pre = c.requires in
-    λ b. omega (arith, c.kernel_count-count.ensures, bias_in args.sh (c.loop-o.o + 1) _ pre.2 (omega (arith, c.loop-o-test.true)) b)
+    λ b. omega (arith, c.kernel_count-count.ensures, bias_in args.filter.now.shape (c.loop-o.o + 1) _ pre.2 (omega (arith, c.loop-o-test.true)) b)
 
 pub overflow_mul-o : goal.overflow_mul-o
 overflow_mul-o c =
@@ -53,11 +53,11 @@ loop-o-preserved c =
     let flat = c.flat in (
       search rules,
       omega (arith, flat.auto.work, loop.invariant.1),
-      start_turn args.sh _ _ loop.work _ _ _ _ _ _ _ kernel-count.ensures loop.invariant.2 bias.ensures flat.ensures,
+      start_turn args.filter.now.shape _ _ loop.work _ _ _ _ _ _ _ kernel-count.ensures loop.invariant.2 bias.ensures flat.ensures,
     )
 
 pub returns : goal.returns
 returns c =
     let args = c.args in
     let loop = c.loop-o in
-    let e : loop.o ≡ args.sh.outs = omega arith in rw e at loop.invariant.2
+    let e : loop.o ≡ args.filter.now.shape.outs = omega arith in rw e at loop.invariant.2

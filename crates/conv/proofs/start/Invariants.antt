@@ -7,7 +7,7 @@ use Rattle.conv.proofs.start.Given as goal
 
 abbrev pub invariant-loop-o : goal.invariant-loop-o
 invariant-loop-o l =
-    (l.o ≤ l.outs) × (length l.work ≡ length l.initial.work) × (l.work ≡ rows l.out l.m l.n l.o (λ o t. start_of l.sh l.weights o) l.initial.work)
+    (l.o ≤ l.outs) × (length l.work ≡ length l.initial.work) × (l.work ≡ rows l.out.first l.out.stride l.n l.o (λ o t. start_of l.filter.shape l.filter.weights.now o) l.initial.work)
 
 abbrev pub decreases-loop-o : goal.decreases-loop-o
 decreases-loop-o l = l.outs - l.o

@@ -10,7 +10,7 @@ use Rattle.conv.proofs.Rows.{tap_turn}
 use Rattle.conv.proofs.tap.Goals as goal
 
 pub loop-g-init : goal.loop-g-init
-loop-g-init c = let none : 0 * outputs_per_group c.args.sh ≡ 0 = omega arith in (search rules, search rules, rw none (rows_none _ _ _ _ _))
+loop-g-init c = let none : 0 * outputs_per_group c.args.filter.now.shape ≡ 0 = omega arith in (search rules, search rules, rw none (rows_none _ _ _ _ _))
 
 pub tap_group-requires : goal.tap_group-requires
 tap_group-requires c =
@@ -34,6 +34,6 @@ returns c =
     let args = c.args in
     let pre = c.requires in
     let loop = c.loop-g in
-    let e : loop.g ≡ args.sh.groups = omega arith in
-    let all : loop.g * outputs_per_group args.sh ≡ args.sh.outs = rw e (sym (outs_are pre.divided)) in
+    let e : loop.g ≡ args.filter.now.shape.groups = omega arith in
+    let all : loop.g * outputs_per_group args.filter.now.shape ≡ args.filter.now.shape.outs = rw e (sym (outs_are pre.divided)) in
     rw all at loop.invariant.2

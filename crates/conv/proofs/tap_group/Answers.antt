@@ -59,7 +59,7 @@ overflow_mul-o c =
     let e2 = outputs-per-group.ensures in
     let fit = row_fits pre.0 args.g loop.i _ _ _ pre.1 c.loop-i-test.true e1 e2 refl in
     let weight = fit.inputs.weights_inside 0 fit.some in
-    let some-weight = le-mul_of_pos_right {m = args.sh.kernel} ((args.g * outputs-per-group.result + loop.i) * inputs-per-group.result) pre.0.range.kernel_low in
+    let some-weight = le-mul_of_pos_right {m = args.filter.now.shape.kernel} ((args.g * outputs-per-group.result + loop.i) * inputs-per-group.result) pre.0.range.kernel_low in
     omega (arith, fit.sums_in, weight, some-weight, rw (sym e2) at (group_end pre.0.divided pre.0.range args.g pre.1), pre.0.range.outs_high, c.loop-i-test.true)
 
 pub overflow_add-o : goal.overflow_add-o
@@ -73,7 +73,7 @@ overflow_add-o c =
     let e2 = outputs-per-group.ensures in
     let fit = row_fits pre.0 args.g loop.i _ _ _ pre.1 c.loop-i-test.true e1 e2 refl in
     let weight = fit.inputs.weights_inside 0 fit.some in
-    let some-weight = le-mul_of_pos_right {m = args.sh.kernel} ((args.g * outputs-per-group.result + loop.i) * inputs-per-group.result) pre.0.range.kernel_low in
+    let some-weight = le-mul_of_pos_right {m = args.filter.now.shape.kernel} ((args.g * outputs-per-group.result + loop.i) * inputs-per-group.result) pre.0.range.kernel_low in
     omega (arith, fit.sums_in, weight, some-weight, rw (sym e2) at (group_end pre.0.divided pre.0.range args.g pre.1), pre.0.range.outs_high, c.loop-i-test.true)
 
 pub overflow_mul-o-in-loop-i : goal.overflow_mul-o-in-loop-i
@@ -88,7 +88,7 @@ overflow_mul-o-in-loop-i c =
     let e2 = outputs-per-group.ensures in
     let fit = row_fits pre.0 args.g loop.i _ _ _ pre.1 loop-test.true e1 e2 refl in
     let weight = fit.inputs.weights_inside 0 fit.some in
-    let some-weight = le-mul_of_pos_right {m = args.sh.kernel} ((args.g * outputs-per-group.result + loop.i) * inputs-per-group.result) pre.0.range.kernel_low in
+    let some-weight = le-mul_of_pos_right {m = args.filter.now.shape.kernel} ((args.g * outputs-per-group.result + loop.i) * inputs-per-group.result) pre.0.range.kernel_low in
     omega (arith, fit.sums_in, weight, some-weight, rw (sym e2) at (group_end pre.0.divided pre.0.range args.g pre.1), pre.0.range.outs_high, loop-test.true)
 
 pub overflow_add-out : goal.overflow_add-out
@@ -103,7 +103,7 @@ overflow_add-out c =
     let e2 = outputs-per-group.ensures in
     let fit = row_fits pre.0 args.g loop.i _ _ _ pre.1 loop-test.true e1 e2 refl in
     let weight = fit.inputs.weights_inside 0 fit.some in
-    let some-weight = le-mul_of_pos_right {m = args.sh.kernel} ((args.g * outputs-per-group.result + loop.i) * inputs-per-group.result) pre.0.range.kernel_low in
+    let some-weight = le-mul_of_pos_right {m = args.filter.now.shape.kernel} ((args.g * outputs-per-group.result + loop.i) * inputs-per-group.result) pre.0.range.kernel_low in
     omega (arith, fit.sums_in, weight, some-weight, rw (sym e2) at (group_end pre.0.divided pre.0.range args.g pre.1), pre.0.range.outs_high, loop-test.true)
 
 pub overflow_mul-o-in-loop-i-2 : goal.overflow_mul-o-in-loop-i-2
@@ -118,7 +118,7 @@ overflow_mul-o-in-loop-i-2 c =
     let e2 = outputs-per-group.ensures in
     let fit = row_fits pre.0 args.g loop.i _ _ _ pre.1 loop-test.true e1 e2 refl in
     let weight = fit.inputs.weights_inside 0 fit.some in
-    let some-weight = le-mul_of_pos_right {m = args.sh.kernel} ((args.g * outputs-per-group.result + loop.i) * inputs-per-group.result) pre.0.range.kernel_low in
+    let some-weight = le-mul_of_pos_right {m = args.filter.now.shape.kernel} ((args.g * outputs-per-group.result + loop.i) * inputs-per-group.result) pre.0.range.kernel_low in
     omega (arith, fit.sums_in, weight, some-weight, rw (sym e2) at (group_end pre.0.divided pre.0.range args.g pre.1), pre.0.range.outs_high, loop-test.true)
 
 pub overflow_mul-o-in-loop-i-3 : goal.overflow_mul-o-in-loop-i-3
@@ -133,7 +133,7 @@ overflow_mul-o-in-loop-i-3 c =
     let e2 = outputs-per-group.ensures in
     let fit = row_fits pre.0 args.g loop.i _ _ _ pre.1 loop-test.true e1 e2 refl in
     let weight = fit.inputs.weights_inside 0 fit.some in
-    let some-weight = le-mul_of_pos_right {m = args.sh.kernel} ((args.g * outputs-per-group.result + loop.i) * inputs-per-group.result) pre.0.range.kernel_low in
+    let some-weight = le-mul_of_pos_right {m = args.filter.now.shape.kernel} ((args.g * outputs-per-group.result + loop.i) * inputs-per-group.result) pre.0.range.kernel_low in
     omega (arith, fit.sums_in, weight, some-weight, rw (sym e2) at (group_end pre.0.divided pre.0.range args.g pre.1), pre.0.range.outs_high, loop-test.true)
 
 pub overflow_add-o-in-loop-i : goal.overflow_add-o-in-loop-i
@@ -148,7 +148,7 @@ overflow_add-o-in-loop-i c =
     let e2 = outputs-per-group.ensures in
     let fit = row_fits pre.0 args.g loop.i _ _ _ pre.1 loop-test.true e1 e2 refl in
     let weight = fit.inputs.weights_inside 0 fit.some in
-    let some-weight = le-mul_of_pos_right {m = args.sh.kernel} ((args.g * outputs-per-group.result + loop.i) * inputs-per-group.result) pre.0.range.kernel_low in
+    let some-weight = le-mul_of_pos_right {m = args.filter.now.shape.kernel} ((args.g * outputs-per-group.result + loop.i) * inputs-per-group.result) pre.0.range.kernel_low in
     omega (arith, fit.sums_in, weight, some-weight, rw (sym e2) at (group_end pre.0.divided pre.0.range args.g pre.1), pre.0.range.outs_high, loop-test.true)
 
 pub add_row-requires : goal.add_row-requires

@@ -2,7 +2,7 @@
 use mathlib.Core.Path.{◌≡◌}
 use native.Mathlib.Omega.{arith}
 use borrow.Author.Rules.{rules}
-use Rattle.conv.proofs.Block.{all_none, all_more}
+use Rattle.conv.proofs.Blocks.{all_none, all_more}
 use Rattle.conv.proofs.taps.Goals as goal
 
 pub loop-k-init : goal.loop-k-init
@@ -30,4 +30,4 @@ pub returns : goal.returns
 returns c =
     let args = c.args in
     let loop = c.loop-k in
-    let e : loop.k ≡ args.sh.kernel = omega arith in rw e at loop.invariant.2
+    let e : loop.k ≡ args.filter.now.shape.kernel = omega arith in rw e at loop.invariant.2
