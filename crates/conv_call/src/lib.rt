@@ -8,7 +8,9 @@ ghost use Rattle.shape.specs.Counts.{InRange, ring_length};
 ghost use Rattle.column.specs.Fits.{PartsFit};
 ghost use Rattle.conv_call.specs.Called.{Exactly, RegionsFit, CallFits, Called};
 
-use ring::Ring;
+use column::Filter;
+use conv::Block;
+use ring::{Memory, Ring};
 use shape::Shape;
 
 fn within(n: usize, low: usize, high: usize) -> bool
@@ -209,17 +211,18 @@ pub extern "C" fn conv_block(
         return 1;
     }
     let len = sh.ring_length();
-    let next = conv::conv(
-        work,
+    let filter = Filter { shape: sh, weights };
+    let mut memory = Memory {
         history,
-        weights,
+        ring: Ring { at, len },
+    };
+    let block = Block {
         x,
         out,
         rows,
-        Ring { at, len },
-        sh,
-        m,
-    );
-    *place = next.at;
+        columns: m,
+    };
+    conv::conv(work, &mut memory, &filter, block);
+    *place = memory.ring.at;
     0
 }

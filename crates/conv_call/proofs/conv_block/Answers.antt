@@ -1,5 +1,6 @@
 -- Refused exactly where the sizes are wrong; otherwise `conv` says what happens.
 use mathlib.Core.Path.{refl}
+use borrow.Author.Rules.{rules}
 use Rattle.conv_call.proofs.Answers.{never}
 use Rattle.conv_call.proofs.conv_block.Goals as goal
 
@@ -9,15 +10,11 @@ returns-then-not-call_fits c = record { played = λ h. absurd (never c.call_fits
 pub ring_length-len-requires : goal.ring_length-len-requires
 ring_length-len-requires c = (c.call_fits.ensures.0 c.if-not-call_fits.false).fits.parts.range
 
-pub conv-next-requires : goal.conv-next-requires
-conv-next-requires c =
+pub conv-requires : goal.conv-requires
+conv-requires c =
     let call-fits = c.call_fits in
     let if1 = c.if-not-call_fits in
     rw c.ring_length-len.ensures (call-fits.ensures.0 if1.false).fits
 
 pub returns : goal.returns
-returns c =
-    let call-fits = c.call_fits in
-    let if1 = c.if-not-call_fits in
-    let conv = c.conv-next in
-    record { played = λ h. (refl, conv.ensures.0); refused = λ h. absurd (h (call-fits.ensures.0 if1.false)) }
+returns c = record { played = λ h. (refl, search (rules, c.conv.ensures.done)); refused = λ h. absurd (h (c.call_fits.ensures.0 c.if-not-call_fits.false)) }
