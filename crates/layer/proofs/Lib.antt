@@ -4,3 +4,4 @@ pub mod Asks
 pub mod Past
 pub mod Whole
 pub mod All
+pub mod Held

@@ -2,3 +2,4 @@ pub mod Column
 pub mod Layered
 pub mod Slots
 pub mod Pieces
+pub mod Held

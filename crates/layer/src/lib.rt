@@ -1,9 +1,8 @@
 // Carries layer.rs: one layer over a block of columns. Document 01, 'The recurrence' (Layer).
 #![tactic(auto)]
 
-ghost use Rattle.std.specs.Prelude.{length};
-ghost use Rattle.layer.specs.Layered.{LayerFits, Layered};
-ghost use Rattle.layer.specs.Slots.{SlotsOf};
+ghost use Rattle.slot.specs.Bench.{SameBench};
+ghost use Rattle.layer.specs.Held.{Ready, Whole};
 
 pub mod pieces;
 pub mod sites;
@@ -11,28 +10,31 @@ pub mod slots;
 
 use crate::slots::Slots;
 use description::records::{ArrayRecord, LayerRecord};
+use slot::Bench;
 
-// m columns through the layer whose numbers lie at `slots`. Of the regions of `size` numbers in `work`, 2 holds the input, 3 the condition and 4 the
-// accumulator, which is added to; the answer says where the layer's output is.
-pub fn layer(
-    work: &mut [f32],
-    histories: &mut [f32],
-    positions: &mut [u32],
-    weights: &[f32],
-    a: ArrayRecord,
-    r: LayerRecord,
-    slots: Slots,
-    size: usize,
-    m: usize,
-) -> usize
-    requires layer_fits { LayerFits a r slots.conv size m (length work.old) histories.old positions.old weights.now }
-    requires slots_of { SlotsOf a r slots }
-    ensures { Layered a r slots.conv weights.now size m result work.old histories.old positions.old
-        work.new histories.new positions.new }
-{
-    pieces::front(work, histories, positions, weights, a, r, slots, size, m);
-    pieces::mixer(work, histories, positions, weights, a, r, slots, size, m);
-    pieces::gate(work, histories, positions, weights, a, r, slots, size, m);
-    pieces::head(work, histories, positions, weights, a, r, slots, size, m);
-    pieces::residual(work, histories, positions, weights, a, r, slots, size, m)
+// A layer, and the block that it takes: `columns` columns in regions of `size` numbers.
+#[derive(Clone, Copy)]
+pub struct Layer<'a> {
+    pub array: ArrayRecord,
+    pub own: LayerRecord,
+    pub slots: Slots,
+    pub weights: &'a [f32],
+    pub size: usize,
+    pub columns: usize,
+}
+
+impl Layer<'_> {
+    // The block through the layer. Of the regions in `work`, 2 holds the input, 3 the condition and 4 the accumulator, which is added to; the answer
+    // says where the layer's output is.
+    pub fn play(&self, bench: &mut Bench<'_>) -> usize
+        requires { Ready self.now bench.old }
+        ensures same { SameBench bench.old bench.new }
+        ensures layered { Whole self.now bench.old bench.new result }
+    {
+        self.front(bench);
+        self.mixer(bench);
+        self.gate(bench);
+        self.head(bench);
+        self.residual(bench)
+    }
 }

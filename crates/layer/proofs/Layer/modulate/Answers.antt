@@ -4,16 +4,16 @@ use Rattle.layer.proofs.Past.{site_past}
 use Rattle.layer.proofs.Asks.{site_fits, width_in}
 use mathlib.Core.Path.{◌∙◌}
 use native.Mathlib.Omega.{arith}
-use Rattle.layer.proofs.sites.modulate.Goals as goal
+use Rattle.layer.proofs.Layer.modulate.Goals as goal
 
 pub site-requires : goal.site-requires
 site-requires c =
     let p = c.applied_site-part.ensures in
     let b = c.shifted-with_shift.ensures in
-    let e = c.place-at.ensures ∙ c.requires.slots_of.is _ (omega (arith, c.requires.behind.0.site_in)) in
+    let e = c.place-at.ensures ∙ c.requires.ready.slots_of.is _ (omega (arith, c.requires.behind.0.site_in)) in
     let w = c.requires.behind.2 in
     let room = c.requires.behind.1 in
-    let f = c.requires.layer_fits in
+    let f = c.requires.ready.layer_fits in
     let i = c.requires.behind.0.site_in in record {
       site_fits = rw (p, b, e, w) (site_fits f _ i _ room.end room.beside);
       site_fits_2 = elim c.requires.places [
@@ -22,11 +22,11 @@ site-requires c =
       ];
     }
 
-pub returns : goal.returns
-returns c =
+pub returns-clause-past : goal.returns-clause-past
+returns-clause-past c =
     let p = c.applied_site-part.ensures in
     let b = c.shifted-with_shift.ensures in
-    let e = c.place-at.ensures ∙ c.requires.slots_of.is _ (omega (arith, c.requires.behind.0.site_in)) in
+    let e = c.place-at.ensures ∙ c.requires.ready.slots_of.is _ (omega (arith, c.requires.behind.0.site_in)) in
     let w = c.requires.behind.2 in
     let room = c.requires.behind.1 in
-    site_past c.requires.layer_fits _ c.requires.behind.0.site_in room.past (rw (p, b, e, w) at c.site.ensures)
+    site_past c.requires.ready.layer_fits _ c.requires.behind.0.site_in room.past (rw (p, b, e, w) at c.site.ensures.sited)
