@@ -9,7 +9,7 @@ ghost use Rattle.layer.specs.Held.{ConvPiece, Ready, SitePiece};
 ghost use Rattle.layer.specs.Pieces.{Behind, Room};
 
 use crate::Layer;
-use description::parts::{Part, core, site_groups, slot};
+use description::parts::{Part, core, slot};
 use gating::Mode;
 use slot::Bench;
 
@@ -35,7 +35,7 @@ impl Layer<'_> {
         ensures { result ≡ is_there (applied_site self.now.array self.now.own i) }
     {
         let applies = blended(self.own.mode);
-        let groups = site_groups(self.own.sites, i);
+        let groups = self.own.sites[i];
         (groups != 0) & ((i != 6) | applies)
     }
 

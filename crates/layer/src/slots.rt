@@ -6,7 +6,7 @@ ghost use Rattle.description.specs.Tally.{past_all};
 ghost use Rattle.layer.specs.Layered.{slot_place};
 ghost use Rattle.layer.specs.Slots.{place_in, SlotsOf};
 
-use description::parts::{core, site_groups, slot};
+use description::parts::{core, slot};
 use description::places::Place;
 use description::records::{ArrayRecord, LayerRecord};
 
@@ -70,8 +70,7 @@ fn past_site(a: ArrayRecord, r: LayerRecord, start: Place, at: Place, i: usize) 
     requires i_bound { (i < 8) × (at ≡ slot_place a r start (4 + i)) }
     ensures { result ≡ slot_place a r start (suc (4 + i)) }
 {
-    let sites = r.sites;
-    if site_groups(sites, i) == 0 {
+    if r.sites[i] == 0 {
         return at;
     }
     at.past(slot(a, r, 4 + i))

@@ -11,3 +11,4 @@ pub mod Through
 pub mod Fitting
 pub mod Numbered
 pub mod Turning
+pub mod Held

@@ -10,6 +10,7 @@ use array::{Buffers, Sources};
 use description::parts::rechannel;
 use description::places::Place;
 use description::records::read_array;
+use slot::Bench;
 
 // The span's columns from the input to region 0, and of the incoming head to region 1. It answers where the next stage's numbers start.
 pub fn rechannel_turn(
@@ -40,18 +41,12 @@ pub fn rechannel_turn(
     let out = 3 * size;
     let rows = 4 * size;
     carry::columns(scratch, input, x, count, from, n, a.input, count);
-    slot::play(
-        scratch,
-        buffers.histories,
-        buffers.positions,
-        sources.weights,
-        x,
-        out,
-        rows,
-        sh,
-        start,
-        count,
-    );
+    let mut bench = Bench {
+        work: &mut *scratch,
+        histories: &mut *buffers.histories,
+        positions: &mut *buffers.positions,
+    };
+    bench.play(sources.weights, x, out, rows, sh, start, count);
     carry::columns_within(scratch, from, n, out, count, channels, count);
     carry::columns(scratch, head_in, size + from, n, from, n, width, count);
     start.past(Some(sh))

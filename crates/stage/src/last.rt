@@ -10,6 +10,7 @@ use array::{Buffers, Sources};
 use description::parts::head_rechannel;
 use description::places::Place;
 use description::records::read_array;
+use slot::Bench;
 
 // The span's columns from region 1 to the head output, and from region 0 to the array output. It answers where the numbers end.
 pub fn head_turn(
@@ -39,18 +40,12 @@ pub fn head_turn(
     let out = 4 * size;
     let rows = 5 * size;
     carry::columns_within(scratch, x, count, size + from, n, ins, count);
-    slot::play(
-        scratch,
-        buffers.histories,
-        buffers.positions,
-        sources.weights,
-        x,
-        out,
-        rows,
-        sh,
-        start,
-        count,
-    );
+    let mut bench = Bench {
+        work: &mut *scratch,
+        histories: &mut *buffers.histories,
+        positions: &mut *buffers.positions,
+    };
+    bench.play(sources.weights, x, out, rows, sh, start, count);
     carry::columns(buffers.head_out, scratch, from, n, out, count, outs, count);
     carry::columns(buffers.array_out, scratch, from, n, from, n, wide, count);
     start.past(Some(sh))

@@ -10,7 +10,9 @@ use crate::span::Span;
 use array::{Buffers, Sources};
 use description::places::Place;
 use description::records::{layer_record, read_array};
+use layer::Layer;
 use layer::slots::slots_from;
+use slot::Bench;
 
 // The span's columns through layer l, from regions 0 and 1 and back to them. It answers where the next stage's numbers start.
 pub fn layer_turn(
@@ -33,17 +35,20 @@ pub fn layer_turn(
     let r = layer_record(sources.description, l);
     let slots = slots_from(a, r, start);
     bring(scratch, sources.condition, a, span);
-    let result = layer::layer(
-        scratch,
-        buffers.histories,
-        buffers.positions,
-        sources.weights,
-        a,
-        r,
+    let layer = Layer {
+        array: a,
+        own: r,
         slots,
-        span.size,
-        span.count,
-    );
+        weights: sources.weights,
+        size: span.size,
+        columns: span.count,
+    };
+    let mut bench = Bench {
+        work: &mut *scratch,
+        histories: &mut *buffers.histories,
+        positions: &mut *buffers.positions,
+    };
+    let result = layer.play(&mut bench);
     hand_on(scratch, a, span, result);
     slots.end
 }

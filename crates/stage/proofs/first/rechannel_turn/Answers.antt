@@ -1,6 +1,8 @@
 -- Copies and one convolution; each asks what Widths gives, and Entry joins them into a turn of stage 0.
 use mathlib.Core.Path.{refl, sym, ◌∙◌}
 use native.Mathlib.Omega.{arith}
+use Rattle.std.proofs.Common.{rules}
+use Rattle.stage.proofs.Held.{played_as}
 use Rattle.description.proofs.Sound.{length_is}
 use Rattle.stage.proofs.Widths.{array_room_of, size_most, compact_in, first_in, second_in, first_apart, count_le, block_as, from_small, play_fits, past_fits}
 use Rattle.stage.proofs.Entry.{entry_turn, rechannel_part, rechannel_widths, entry_at}
@@ -35,7 +37,7 @@ play-requires c =
 
 pub columns_within-requires : goal.columns_within-requires
 columns_within-requires c =
-    let long = c.play.auto.work ∙ c.columns.auto.dst ∙ c.requires.stage_fits.scratch_is in
+    let long = search rules ∙ c.play.ensures.played.others.long ∙ c.columns.auto.dst ∙ c.requires.stage_fits.scratch_is in
     let r = array_room_of c.requires.stage_fits c.read_array-a.ensures 2 in
     (first_in c.requires.stage_fits r long, compact_in c.requires.stage_fits r long 3 (omega arith), count_le c.requires.stage_fits, omega arith, first_apart c.requires.stage_fits r long 3 (omega arith))
 
@@ -44,7 +46,7 @@ overflow_add-size c = omega (arith, size_most c.requires.stage_fits, from_small 
 
 pub columns-requires-2 : goal.columns-requires-2
 columns-requires-2 c =
-    let long = c.columns_within.auto.work ∙ c.play.auto.work ∙ c.columns.auto.dst ∙ c.requires.stage_fits.scratch_is in (
+    let long = c.columns_within.auto.work ∙ search rules ∙ c.play.ensures.played.others.long ∙ c.columns.auto.dst ∙ c.requires.stage_fits.scratch_is in (
       second_in c.requires.stage_fits (array_room_of c.requires.stage_fits c.read_array-a.ensures 3) long,
       block_as c.requires.stage_fits (λ (a : ArrayRecord). a.head_in) c.read_array-a.ensures c.requires.blocks_fit.head_in_is,
       count_le c.requires.stage_fits,
@@ -60,14 +62,14 @@ past-requires c =
 pub returns : goal.returns
 returns c =
     let is = sym c.rechannel-sh.ensures in
-    let t = entry_turn c.args.sources.now.input.now c.args.sources.now.head_in.now _ _ _ _ _ c.read_array-a.result c.read_array-a.ensures c.requires.stage_fits is c.columns.ensures c.play.ensures c.columns_within.ensures c.columns-2.ensures in
+    let t = entry_turn c.args.sources.now.input.now c.args.sources.now.head_in.now _ _ _ _ _ c.read_array-a.result c.read_array-a.ensures c.requires.stage_fits is c.columns.ensures (played_as (search rules) (search rules) (search rules) c.play.ensures.played) c.columns_within.ensures c.columns-2.ensures in
     record { value = c.past.ensures ∙ t.0; turn_done = t.1.by _ _ _; placed = t.1.places; same = record {
       histories = refl;
       positions = refl;
       head_out = refl;
       array_out = refl;
-      histories_long = c.play.auto.histories;
-      positions_long = c.play.auto.positions;
+      histories_long = search rules;
+      positions_long = search rules;
       head_long = refl;
       array_long = refl;
     } }

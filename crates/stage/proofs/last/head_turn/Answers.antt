@@ -1,6 +1,8 @@
 -- Copies and one convolution; each asks what Widths gives, and Exit joins them into a turn of the last stage.
 use mathlib.Core.Path.{refl, sym, ◌∙◌}
 use native.Mathlib.Omega.{arith}
+use Rattle.std.proofs.Common.{rules}
+use Rattle.stage.proofs.Held.{played_as}
 use Rattle.description.proofs.Sound.{length_is}
 use Rattle.description.specs.declared.records.ArrayRecord.{ArrayRecord}
 use Rattle.stage.proofs.Widths.{array_room_of, size_most, compact_in, first_in, second_in, apart_second, count_le, block_as, from_small, play_fits, past_fits}
@@ -36,7 +38,7 @@ play-requires c =
 
 pub columns-requires : goal.columns-requires
 columns-requires c =
-    let long = c.play.auto.work ∙ c.columns_within.auto.work ∙ c.requires.stage_fits.scratch_is in (
+    let long = search rules ∙ c.play.ensures.played.others.long ∙ c.columns_within.auto.work ∙ c.requires.stage_fits.scratch_is in (
       block_as c.requires.stage_fits (λ (a : ArrayRecord). a.head_size) c.read_array-a.ensures c.requires.blocks_fit.head_out_is,
       compact_in c.requires.stage_fits (array_room_of c.requires.stage_fits c.read_array-a.ensures 4) long 4 (omega arith),
       count_le c.requires.stage_fits,
@@ -45,7 +47,7 @@ columns-requires c =
 
 pub columns-requires-2 : goal.columns-requires-2
 columns-requires-2 c =
-    let long = c.play.auto.work ∙ c.columns_within.auto.work ∙ c.requires.stage_fits.scratch_is in (
+    let long = search rules ∙ c.play.ensures.played.others.long ∙ c.columns_within.auto.work ∙ c.requires.stage_fits.scratch_is in (
       block_as c.requires.stage_fits (λ (a : ArrayRecord). a.channels) c.read_array-a.ensures c.requires.blocks_fit.array_out_is,
       first_in c.requires.stage_fits (array_room_of c.requires.stage_fits c.read_array-a.ensures 2) long,
       count_le c.requires.stage_fits,
@@ -61,14 +63,14 @@ past-requires c =
 pub returns : goal.returns
 returns c =
     let is = sym c.head_rechannel-sh.ensures in
-    let t = exit_turn _ _ _ _ _ _ _ c.read_array-a.result c.read_array-a.ensures c.requires.stage_fits c.requires.blocks_fit.head_out_is c.requires.blocks_fit.array_out_is is c.columns_within.ensures c.play.ensures c.columns.ensures c.columns-2.ensures in
+    let t = exit_turn _ _ _ _ _ _ _ c.read_array-a.result c.read_array-a.ensures c.requires.stage_fits c.requires.blocks_fit.head_out_is c.requires.blocks_fit.array_out_is is c.columns_within.ensures (played_as (search rules) (search rules) (search rules) c.play.ensures.played) c.columns.ensures c.columns-2.ensures in
     record { value = c.past.ensures ∙ t.0; turn_done = t.1.by _ _ _; placed = t.1.places; same = record {
       histories = refl;
       positions = refl;
       head_out = refl;
       array_out = refl;
-      histories_long = c.play.auto.histories;
-      positions_long = c.play.auto.positions;
+      histories_long = search rules;
+      positions_long = search rules;
       head_long = c.columns.auto.dst;
       array_long = c.columns-2.auto.dst;
     } }

@@ -2,6 +2,8 @@
 use mathlib.Core.Path.{refl, sym, ◌∙◌, ap}
 use Prim.Native.Nat.{◌*◌}
 use native.Mathlib.Omega.{arith}
+use Rattle.std.proofs.Common.{rules}
+use Rattle.stage.proofs.Held.{layered_as}
 use Rattle.description.proofs.Sound.{length_is}
 use Rattle.description.specs.declared.records.ArrayRecord.{ArrayRecord}
 use Rattle.stage.proofs.Fitting.{copy_fits, layer_fits, slots_fit, end_is, layer_turn, result_past}
@@ -22,8 +24,8 @@ pub bring-requires : goal.bring-requires
 bring-requires c =
     record { copy_fits = copy_fits c.requires.stage_fits c.read_array-a.ensures c.requires.stage_fits.scratch_is; condition_len = c.requires.blocks_fit.condition_is ∙ ap (λ (a : ArrayRecord). a.condition * c.args.span.n) (sym c.read_array-a.ensures) }
 
-pub layer-result-requires : goal.layer-result-requires
-layer-result-requires c =
+pub play-result-requires : goal.play-result-requires
+play-result-requires c =
     record {
       layer_fits = layer_fits c.args.sources.now.weights.now c.args.buffers.now.histories.now c.requires.stage_fits c.requires.l_bound c.read_array-a.ensures c.layer_record-r.ensures c.slots_from-slots.ensures.0
           (c.bring.auto.scratch ∙ c.requires.stage_fits.scratch_is);
@@ -32,12 +34,12 @@ layer-result-requires c =
 
 pub hand_on-requires : goal.hand_on-requires
 hand_on-requires c =
-    record { copy_fits = copy_fits c.requires.stage_fits c.read_array-a.ensures (c.layer-result.auto.work ∙ c.bring.auto.scratch ∙ c.requires.stage_fits.scratch_is); size_bound = result_past c.args.span.size c.layer-result.result c.layer-result.ensures.result_in }
+    record { copy_fits = copy_fits c.requires.stage_fits c.read_array-a.ensures (search rules ∙ c.play-result.ensures.layered.others.long ∙ c.bring.auto.scratch ∙ c.requires.stage_fits.scratch_is); size_bound = result_past c.args.span.size c.play-result.result c.play-result.ensures.layered.result_in }
 
 pub returns : goal.returns
 returns c =
     let t = layer_turn c.args.sources.now.weights.now c.args.buffers.now.histories.now c.requires.stage_fits c.requires.l_bound c.args.sources.now.condition.now _ _ _ _ refl
-    c.read_array-a.ensures c.layer_record-r.ensures c.slots_from-slots.ensures.0 c.bring.ensures c.layer-result.ensures c.hand_on.ensures in
+    c.read_array-a.ensures c.layer_record-r.ensures c.slots_from-slots.ensures.0 c.bring.ensures (layered_as (search rules) (search rules) (search rules) c.play-result.ensures.layered) c.hand_on.ensures in
     record {
       value = c.slots_from-slots.ensures.2 ∙ end_is c.args.sources.now.weights.now c.args.buffers.now.histories.now c.requires.stage_fits c.requires.l_bound c.read_array-a.ensures c.layer_record-r.ensures;
       turn_done = t.by _ _ _ _;
@@ -47,8 +49,8 @@ returns c =
       positions = refl;
       head_out = refl;
       array_out = refl;
-      histories_long = c.layer-result.auto.histories;
-      positions_long = c.layer-result.auto.positions;
+      histories_long = search rules;
+      positions_long = search rules;
       head_long = refl;
       array_long = refl;
     };
