@@ -60,12 +60,13 @@ fn tap_group(
     let ipg = filter.shape.inputs_per_group();
     let opg = filter.shape.outputs_per_group();
     let row = from.first + g * ipg * from.stride;
+    let kernel = filter.shape.kernel;
+    let weights = filter.weights;
     for i in 0..opg {
         let o = g * opg + i;
-        let kernel = filter.shape.kernel;
         sums::row::add_row(
             work,
-            filter.weights,
+            weights,
             out.first + o * out.stride,
             row,
             from.stride,

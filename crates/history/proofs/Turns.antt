@@ -12,7 +12,7 @@ use Rattle.lists.proofs.Nums.{row_end}
 use Rattle.lists.proofs.Rows.{rows_more, rows_ext, rows_wider, at-rows-out}
 use Rattle.ring.specs.Place.{next_place, place_back}
 use Rattle.ring.specs.Memory.{Memory, Sound, push, past, after, seen}
-use Rattle.ring.proofs.Places.{next_back}
+use Rattle.ring.proofs.Places.{next_lt, next_back}
 use Rattle.ring.proofs.Window.{after_sound, seen_in, seen-out}
 use Rattle.ring.proofs.Blocks.{after_more, push_ext}
 use Rattle.history.specs.Fits.{StoreFits, FetchFits, CopyFits, GatherFits}
@@ -21,18 +21,24 @@ use Rattle.history.specs.Fits.{StoreFits, FetchFits, CopyFits, GatherFits}
 pub column_end : (ins len p n : ℕ) → p < len → n ≡ ins * len → p * ins + ins ≤ n
 column_end ins len p n h e = omega (arith, row_end p len ins h, e, mul_comm ins len)
 
--- after t columns the next one fits
-pub turn_fits : {ins len nwork x stride n : ℕ} (len' t : ℕ) (g : ℕ → ℕ → Float) (s s' : Memory) → StoreFits s.place len (length s.history) nwork ins x stride n
-    → len' ≡ len → s' ≡ after ins len g s t → t < n → StoreFits s'.place len' (length s'.history) nwork ins (x + t) stride 1
-turn_fits {ins} {len} len' t g s s' f l e lt =
+-- after t columns the memory has its size, and the next column lies in its history
+pub turn_sound : {ins len nwork x stride n : ℕ} (t p : ℕ) (g : ℕ → ℕ → Float) (s : Memory) (history : List Float) → StoreFits s.place len (length s.history) nwork ins x stride n
+    → record { history = history; place = p } ≡ after ins len g s t → Sound ins len (record { history = history; place = p })
+turn_sound {ins} {len} t p g s history f e =
     let before : Sound ins len s = record { place_in = f.place_in; history_is = f.history_is } in
-    let now : Sound ins len s' = rw e (after_sound before g t) in
-    record { some = f.some; place_in = rw l now.place_in; history_is = rw l now.history_is; block_in = λ c hc. omega (arith, f.block_in c hc) }
+    rw e (after_sound before g t)
 
-pub store_turn : (ins len t : ℕ) (x : ℕ → ℕ → Float) (s work last : Memory) (column : ℕ → Float) → work ≡ after ins len x s t → last ≡ push ins len work column
-    → ((j : ℕ) → j < ins → column j ≡ x t j) → last ≡ after ins len x s (t + 1)
-store_turn ins len t x s work last column e h same =
-    h ∙ push_ext ins len work column (x t) same ∙ ap (λ (m : Memory). push ins len m (x t)) e ∙ after_more ins len x s t
+pub turn_fits : {ins len : ℕ} (p q : ℕ) (history : List Float) → Sound ins len (record { history = history; place = p }) → q ≡ next_place len p → q * ins + ins ≤ length history
+turn_fits {ins} {len} p q history f h = column_end ins len q (length history) (rw h (next_lt len p f.place_in)) f.history_is
+
+pub store_turn : (ins len t : ℕ) (x : ℕ → ℕ → Float) (s : Memory) (history last : List Float) (p q : ℕ) (column : ℕ → Float)
+    → record { history = history; place = p } ≡ after ins len x s t → q ≡ next_place len p → last ≡ fill (q * ins) ins column history
+    → ((j : ℕ) → j < ins → column j ≡ x t j) → record { history = last; place = q } ≡ after ins len x s (t + 1)
+unfolding push
+store_turn ins len t x s history last p q column e g h same =
+    rw (h, g) (push_ext ins len (record { history = history; place = p }) column (x t) same)
+    ∙ ap (λ (m : Memory). push ins len m (x t)) e
+    ∙ after_more ins len x s t
 
 -- the next place, reading the past forward
 pub fetch_place : (len at back t p q : ℕ) → at < len → back < len → t < back → p ≡ place_back len at (back - t) → q ≡ next_place len p → q ≡ place_back len at (back - (t + 1))

@@ -6,7 +6,7 @@
 ghost use Rattle.std.specs.Prelude.{◌≡◌, ℕ, ◌+◌, ◌-◌, ◌*◌, ◌≤◌, ◌<◌, length};
 ghost use Rattle.lists.specs.Tab.{at, fill, rows};
 ghost use Rattle.lists.specs.Region.{Apart};
-ghost use Rattle.ring.specs.Memory.{push, past, after, seen};
+ghost use Rattle.ring.specs.Memory.{past, after, seen};
 ghost use Rattle.ring.specs.Held.{held, Keeps};
 ghost use Rattle.history.specs.Fits.{StoreFits, FetchFits, CopyFits, GatherFits};
 
@@ -55,29 +55,22 @@ fn store_column(
     }
 }
 
-// One column pushed: the place moves on, then the column is stored.
-fn push(memory: &mut Memory<'_>, work: &[f32], column: Rows, ins: usize)
-    requires { StoreFits memory.old.ring.at memory.old.ring.len (length memory.old.history.now) (length work.now) ins column.first column.stride 1 }
-    ensures kept { Keeps memory.old memory.new }
-    ensures pushed { held memory.new ≡ push ins memory.old.ring.len (held memory.old) (λ j. at work.now (column.first + j * column.stride)) }
-{
-    let next = memory.ring.next();
-    let base = next.at * ins;
-    store_column(memory.history, work, base, column.first, column.stride, ins);
-    memory.ring = next;
-}
-
-// The n columns of a block, one after the other.
+// The n columns of a block, pushed one after the other: the place moves on, then the column is stored. Written to the memory with each column, the place
+// would cost a nanosecond a column: so it is written at the end.
 pub fn store(memory: &mut Memory<'_>, work: &[f32], block: Rows, ins: usize, n: usize)
     requires { StoreFits memory.old.ring.at memory.old.ring.len (length memory.old.history.now) (length work.now) ins block.first block.stride n }
     ensures kept { Keeps memory.old memory.new }
     ensures stored { held memory.new ≡ after ins memory.old.ring.len (λ t j. at work.now (block.first + j * block.stride + t)) (held memory.old) n }
 {
     let stride = block.stride;
+    let mut ring = memory.ring;
     for column in 0..n {
+        ring = ring.next();
+        let base = ring.at * ins;
         let first = block.first + column;
-        push(memory, work, Rows { first, stride }, ins);
+        store_column(memory.history, work, base, first, stride, ins);
     }
+    memory.ring = ring;
 }
 
 // One column of the history, from base on, into work.
