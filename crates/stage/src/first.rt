@@ -1,9 +1,10 @@
 // Stage 0, the rechannel. Carries the first step of array.rs. Document 01, 'Plans' and 'The recurrence' (Array): the accumulator starts at the incoming
 // head.
-ghost use Rattle.std.specs.Prelude.{◌≡◌, suc};
+ghost use Rattle.std.specs.Prelude.{◌≡◌, suc, ◌*◌, length};
+ghost use Rattle.description.specs.Records.{array_of};
 ghost use Rattle.array.specs.Buffers.{SameBuffers};
 ghost use Rattle.array.specs.Turn.{start_of};
-ghost use Rattle.stage.specs.Turns.{BlocksFit, Placed, TurnFits, TurnTaken};
+ghost use Rattle.stage.specs.Turns.{Placed, TurnFits, TurnTaken};
 
 use crate::span::Span;
 use array::{Buffers, Sources};
@@ -21,7 +22,8 @@ pub fn rechannel_turn(
     span: Span,
 ) -> Place
     requires stage_fits { TurnFits sources.now buffers.old scratch.old span 0 start }
-    requires blocks_fit { BlocksFit sources.now buffers.old span.n }
+    requires input_len { (length sources.now.input.now ≡ (array_of sources.now.description.now).input * span.n)
+        × (length sources.now.head_in.now ≡ (array_of sources.now.description.now).head_in * span.n) }
     ensures value { result ≡ start_of sources.now.description.now (suc 0) }
     ensures turn_done { TurnTaken sources.now buffers.old scratch.old buffers.new scratch.new span 0 }
     ensures placed { Placed sources.now.description.now buffers.new.positions.now }

@@ -1,9 +1,10 @@
 // Stage L + 1, the head rechannel. Carries the last step of array.rs. Document 01, 'Plans' and 'The recurrence' (Array).
-ghost use Rattle.std.specs.Prelude.{◌≡◌, suc};
+ghost use Rattle.std.specs.Prelude.{◌≡◌, suc, ◌*◌, length};
 ghost use Rattle.description.specs.Numbers.{layer_count};
+ghost use Rattle.description.specs.Records.{array_of};
 ghost use Rattle.array.specs.Buffers.{SameBuffers};
 ghost use Rattle.array.specs.Turn.{start_of};
-ghost use Rattle.stage.specs.Turns.{BlocksFit, Placed, TurnFits, TurnTaken};
+ghost use Rattle.stage.specs.Turns.{Placed, TurnFits, TurnTaken};
 
 use crate::span::Span;
 use array::{Buffers, Sources};
@@ -21,7 +22,8 @@ pub fn head_turn(
     span: Span,
 ) -> Place
     requires stage_fits { TurnFits sources.now buffers.old scratch.old span (suc (layer_count sources.now.description.now)) start }
-    requires blocks_fit { BlocksFit sources.now buffers.old span.n }
+    requires head_out_len { (length buffers.old.head_out.now ≡ (array_of sources.now.description.now).head_size * span.n)
+        × (length buffers.old.array_out.now ≡ (array_of sources.now.description.now).channels * span.n) }
     ensures value { result ≡ start_of sources.now.description.now (suc (suc (layer_count sources.now.description.now))) }
     ensures turn_done { TurnTaken sources.now buffers.old scratch.old buffers.new scratch.new span (suc (layer_count sources.now.description.now)) }
     ensures placed { Placed sources.now.description.now buffers.new.positions.now }

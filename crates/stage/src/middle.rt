@@ -1,9 +1,10 @@
 // Stages 1 to L, the layers. Carries the loop over layers of array.rs. Document 01, 'Plans' and 'The recurrence' (Array).
-ghost use Rattle.std.specs.Prelude.{◌≡◌, suc, ◌<◌};
+ghost use Rattle.std.specs.Prelude.{◌≡◌, suc, ◌<◌, ◌*◌, length};
 ghost use Rattle.description.specs.Numbers.{layer_count};
+ghost use Rattle.description.specs.Records.{array_of};
 ghost use Rattle.array.specs.Buffers.{SameBuffers};
 ghost use Rattle.array.specs.Turn.{start_of};
-ghost use Rattle.stage.specs.Turns.{BlocksFit, Placed, TurnFits, TurnTaken};
+ghost use Rattle.stage.specs.Turns.{Placed, TurnFits, TurnTaken};
 
 use crate::copies::{bring, hand_on};
 use crate::span::Span;
@@ -25,7 +26,7 @@ pub fn layer_turn(
 ) -> Place
     requires stage_fits { TurnFits sources.now buffers.old scratch.old span (suc l) start }
     requires l_bound { l < layer_count sources.now.description.now }
-    requires blocks_fit { BlocksFit sources.now buffers.old span.n }
+    requires condition_len { length sources.now.condition.now ≡ (array_of sources.now.description.now).condition * span.n }
     ensures value { result ≡ start_of sources.now.description.now (suc (suc l)) }
     ensures turn_done { TurnTaken sources.now buffers.old scratch.old buffers.new scratch.new span (suc l) }
     ensures placed { Placed sources.now.description.now buffers.new.positions.now }

@@ -16,6 +16,15 @@ rechannel_turn-requires-clause-stage_fits c =
     let k = first_is _ _ c.stage_at.ensures c.in-Rechannel.is in
     fits_as c.args.sources.now c.args.buffers.now c.args.scratch.now c.args.span c.args.start 0 c.requires.stage_fits (sym k)
 
+pub rechannel_turn-requires-clause-input_len : goal.rechannel_turn-requires-clause-input_len
+rechannel_turn-requires-clause-input_len c = (c.requires.blocks_fit.input_is, c.requires.blocks_fit.head_in_is)
+
+pub layer_turn-requires-clause-condition_len : goal.layer_turn-requires-clause-condition_len
+layer_turn-requires-clause-condition_len c = c.requires.blocks_fit.condition_is
+
+pub head_turn-requires-clause-head_out_len : goal.head_turn-requires-clause-head_out_len
+head_turn-requires-clause-head_out_len c = (c.requires.blocks_fit.head_out_is, c.requires.blocks_fit.array_out_is)
+
 pub layer_turn-requires-clause-stage_fits : goal.layer_turn-requires-clause-stage_fits
 layer_turn-requires-clause-stage_fits c =
     let k = layer_is _ _ c.in-Layer.l c.stage_at.ensures c.in-Layer.is in

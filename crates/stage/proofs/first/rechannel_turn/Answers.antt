@@ -24,7 +24,7 @@ overflow_mul-rows c = omega (arith, size_most c.requires.stage_fits)
 pub columns-requires : goal.columns-requires
 columns-requires c = (
   compact_in c.requires.stage_fits (array_room_of c.requires.stage_fits c.read_array-a.ensures 0) c.requires.stage_fits.scratch_is 2 (omega arith),
-  block_as c.requires.stage_fits (λ (a : ArrayRecord). a.input) c.read_array-a.ensures c.requires.blocks_fit.input_is,
+  block_as c.requires.stage_fits (λ (a : ArrayRecord). a.input) c.read_array-a.ensures c.requires.input_len.0,
   omega arith,
   count_le c.requires.stage_fits,
 )
@@ -48,7 +48,7 @@ pub columns-requires-2 : goal.columns-requires-2
 columns-requires-2 c =
     let long = c.columns_within.auto.work ∙ search rules ∙ c.play.ensures.played.others.long ∙ c.columns.auto.dst ∙ c.requires.stage_fits.scratch_is in (
       second_in c.requires.stage_fits (array_room_of c.requires.stage_fits c.read_array-a.ensures 3) long,
-      block_as c.requires.stage_fits (λ (a : ArrayRecord). a.head_in) c.read_array-a.ensures c.requires.blocks_fit.head_in_is,
+      block_as c.requires.stage_fits (λ (a : ArrayRecord). a.head_in) c.read_array-a.ensures c.requires.input_len.1,
       count_le c.requires.stage_fits,
       count_le c.requires.stage_fits,
     )

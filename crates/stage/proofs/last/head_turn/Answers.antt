@@ -39,7 +39,7 @@ play-requires c =
 pub columns-requires : goal.columns-requires
 columns-requires c =
     let long = search rules ∙ c.play.ensures.played.others.long ∙ c.columns_within.auto.work ∙ c.requires.stage_fits.scratch_is in (
-      block_as c.requires.stage_fits (λ (a : ArrayRecord). a.head_size) c.read_array-a.ensures c.requires.blocks_fit.head_out_is,
+      block_as c.requires.stage_fits (λ (a : ArrayRecord). a.head_size) c.read_array-a.ensures c.requires.head_out_len.0,
       compact_in c.requires.stage_fits (array_room_of c.requires.stage_fits c.read_array-a.ensures 4) long 4 (omega arith),
       count_le c.requires.stage_fits,
       omega arith,
@@ -48,7 +48,7 @@ columns-requires c =
 pub columns-requires-2 : goal.columns-requires-2
 columns-requires-2 c =
     let long = search rules ∙ c.play.ensures.played.others.long ∙ c.columns_within.auto.work ∙ c.requires.stage_fits.scratch_is in (
-      block_as c.requires.stage_fits (λ (a : ArrayRecord). a.channels) c.read_array-a.ensures c.requires.blocks_fit.array_out_is,
+      block_as c.requires.stage_fits (λ (a : ArrayRecord). a.channels) c.read_array-a.ensures c.requires.head_out_len.1,
       first_in c.requires.stage_fits (array_room_of c.requires.stage_fits c.read_array-a.ensures 2) long,
       count_le c.requires.stage_fits,
       count_le c.requires.stage_fits,
@@ -63,7 +63,7 @@ past-requires c =
 pub returns : goal.returns
 returns c =
     let is = sym c.head_rechannel-sh.ensures in
-    let t = exit_turn _ _ _ _ _ _ _ c.read_array-a.result c.read_array-a.ensures c.requires.stage_fits c.requires.blocks_fit.head_out_is c.requires.blocks_fit.array_out_is is c.columns_within.ensures (played_as (search rules) (search rules) (search rules) c.play.ensures.played) c.columns.ensures c.columns-2.ensures in
+    let t = exit_turn _ _ _ _ _ _ _ c.read_array-a.result c.read_array-a.ensures c.requires.stage_fits c.requires.head_out_len.0 c.requires.head_out_len.1 is c.columns_within.ensures (played_as (search rules) (search rules) (search rules) c.play.ensures.played) c.columns.ensures c.columns-2.ensures in
     record { value = c.past.ensures ∙ t.0; turn_done = t.1.by _ _ _; placed = t.1.places; same = record {
       histories = refl;
       positions = refl;

@@ -22,7 +22,7 @@ slots_from-slots-requires c =
 
 pub bring-requires : goal.bring-requires
 bring-requires c =
-    record { copy_fits = copy_fits c.requires.stage_fits c.read_array-a.ensures c.requires.stage_fits.scratch_is; condition_len = c.requires.blocks_fit.condition_is ∙ ap (λ (a : ArrayRecord). a.condition * c.args.span.n) (sym c.read_array-a.ensures) }
+    record { copy_fits = copy_fits c.requires.stage_fits c.read_array-a.ensures c.requires.stage_fits.scratch_is; condition_len = c.requires.condition_len ∙ ap (λ (a : ArrayRecord). a.condition * c.args.span.n) (sym c.read_array-a.ensures) }
 
 pub play-result-requires : goal.play-result-requires
 play-result-requires c =
