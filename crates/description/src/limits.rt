@@ -49,11 +49,10 @@ pub fn breaks_range(limits: &[[u32; 2]], description: &[u32], at: usize) -> bool
     requires { at + length limits.now ≤ length description.now }
     ensures { result ≡ breaks_range limits.now description.now at }
 {
-    let n = limits.len();
     let mut broken = false;
-    for p in 0..n {
+    for (p, limit) in limits.iter().enumerate() {
         let x = description[at + p];
-        broken = broken | ((x < limits[p][0]) | (limits[p][1] < x));
+        broken = broken | ((x < limit[0]) | (limit[1] < x));
     }
     broken
 }

@@ -41,9 +41,8 @@ fn breaks_sites(description: &[u32], at: usize) -> bool
 {
     let bits = description[at + 23];
     let mut broken = false;
-    for i in 0..8 {
-        let groups = description[at + (15 + i)];
-        broken = broken | (groups == 0) & ((bits >> i) % 2 == 1);
+    for (i, groups) in description[at + 15..at + 23].iter().enumerate() {
+        broken = broken | (*groups == 0) & ((bits >> i) % 2 == 1);
     }
     broken
 }
