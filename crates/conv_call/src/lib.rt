@@ -2,7 +2,7 @@
 // first, and where one is wrong nothing is touched.
 #![tactic(auto)]
 
-ghost use Rattle.std.specs.Prelude.{◌≡◌, true, ◌+◌, ◌≤◌, ◌<◌, length, eqb};
+ghost use Rattle.std.specs.Prelude.{◌≡◌, true, ◌+◌, ◌*◌, ◌≤◌, ◌<◌, length, eqb};
 ghost use Rattle.lists.specs.Region.{Apart};
 ghost use Rattle.shape.specs.Counts.{InRange, ring_length};
 ghost use Rattle.column.specs.Fits.{PartsFit};
@@ -13,153 +13,100 @@ use conv::Block;
 use ring::{Memory, Ring};
 use shape::Shape;
 
-fn within(n: usize, low: usize, high: usize) -> bool
-    ensures { Exactly result ((low ≤ n) × (n ≤ high)) }
-{
-    if n < low {
-        return false;
-    }
-    if high < n {
-        return false;
-    }
-    true
+// A stretch of work: `count` numbers from `from` on.
+#[derive(Clone, Copy)]
+struct Region {
+    from: usize,
+    count: usize,
 }
 
-// n numbers from a on lie within nwork.
-fn region(nwork: usize, a: usize, n: usize) -> bool
-    ensures { Exactly result (a + n ≤ nwork) }
-{
-    if nwork < a {
-        return false;
+impl Region {
+    fn is_within(self, nwork: usize) -> bool
+        ensures { Exactly result (self.from + self.count ≤ nwork) }
+    {
+        self.from <= nwork && self.count <= nwork - self.from
     }
-    if nwork - a < n {
-        return false;
-    }
-    true
-}
 
-// n numbers from a on and k from b on have none in common.
-fn apart(a: usize, n: usize, b: usize, k: usize) -> bool
-    requires { (0 < n) × (0 < k) }
-    ensures { Exactly result (Apart a n b k) }
-{
-    if a <= b {
-        if b - a < n {
-            return false;
+    // The two have no number in common.
+    fn is_apart(self, other: Region) -> bool
+        requires { (0 < self.count) × (0 < other.count) }
+        ensures { Exactly result (Apart self.from self.count other.from other.count) }
+    {
+        if self.from <= other.from {
+            self.count <= other.from - self.from
+        } else {
+            other.count <= self.from - other.from
         }
-        return true;
     }
-    if a - b < k {
-        return false;
-    }
-    true
 }
 
-fn in_range(sh: Shape) -> bool
-    ensures { Exactly result (InRange sh) }
+fn in_range(shape: Shape) -> bool
+    ensures { Exactly result (InRange shape) }
 {
-    let ins = sh.ins;
-    let outs = sh.outs;
-    let kernel = sh.kernel;
-    let dilation = sh.dilation;
-    let groups = sh.groups;
-    if !within(ins, 1, 128) {
-        return false;
-    }
-    if !within(outs, 1, 128) {
-        return false;
-    }
-    if !within(kernel, 1, 16) {
-        return false;
-    }
-    if !within(dilation, 1, 2048) {
-        return false;
-    }
-    if !within(groups, 1, 32) {
-        return false;
-    }
-    true
+    (1..=128).contains(&shape.ins)
+        && (1..=128).contains(&shape.outs)
+        && (1..=16).contains(&shape.kernel)
+        && (1..=2048).contains(&shape.dilation)
+        && (1..=32).contains(&shape.groups)
 }
 
-fn parts_fit(sh: Shape, place: usize, nhistory: usize, nweights: usize) -> bool
-    requires { InRange sh }
-    ensures { Exactly result (PartsFit sh place (ring_length sh) nhistory nweights) }
+fn parts_fit(filter: &Filter<'_>, place: usize, history: &[f32]) -> bool
+    requires { InRange filter.now.shape }
+    ensures { Exactly result (PartsFit filter.now.shape place (ring_length filter.now.shape) (length history.now) (length filter.now.weights.now)) }
 {
-    let groups = sh.groups;
-    if sh.ins % groups != 0 {
-        return false;
-    }
-    if sh.outs % groups != 0 {
-        return false;
-    }
-    if sh.ring_length() <= place {
-        return false;
-    }
-    if nhistory != sh.history_count() {
-        return false;
-    }
-    if nweights != sh.weight_count() {
-        return false;
-    }
-    true
+    let shape = filter.shape;
+    let groups = shape.groups;
+    shape.ins % groups == 0
+        && shape.outs % groups == 0
+        && place < shape.ring_length()
+        && history.len() == shape.history_count()
+        && filter.weights.len() == shape.weight_count()
 }
 
-// The three regions lie within work, and apart.
-fn regions_fit(nwork: usize, nx: usize, nout: usize, x: usize, out: usize, rows: usize) -> bool
-    requires { (0 < nx) × (0 < nout) }
-    ensures { Exactly result (RegionsFit nwork nx nout x out rows) }
+// The three regions of the block lie within work, and apart.
+fn regions_fit(work: &[f32], shape: Shape, block: Block) -> bool
+    requires { InRange shape × (1 ≤ block.columns) × (block.columns ≤ 1024) }
+    ensures { Exactly result (RegionsFit (length work.now) (shape.ins * block.columns) (shape.outs * block.columns) block.x block.out block.rows) }
 {
-    if !region(nwork, x, nx) {
-        return false;
-    }
-    if !region(nwork, out, nout) {
-        return false;
-    }
-    if !region(nwork, rows, nx) {
-        return false;
-    }
-    if !apart(out, nout, x, nx) {
-        return false;
-    }
-    if !apart(out, nout, rows, nx) {
-        return false;
-    }
-    if !apart(rows, nx, x, nx) {
-        return false;
-    }
-    true
+    let count = shape.ins * block.columns;
+    let x = Region {
+        from: block.x,
+        count,
+    };
+    let rows = Region {
+        from: block.rows,
+        count,
+    };
+    let count = shape.outs * block.columns;
+    let out = Region {
+        from: block.out,
+        count,
+    };
+    let nwork = work.len();
+    x.is_within(nwork)
+        && out.is_within(nwork)
+        && rows.is_within(nwork)
+        && out.is_apart(x)
+        && out.is_apart(rows)
+        && rows.is_apart(x)
 }
 
 fn call_fits(
-    sh: Shape,
+    work: &[f32],
+    history: &[f32],
     place: usize,
+    filter: &Filter<'_>,
     bias: u32,
-    m: usize,
-    nwork: usize,
-    nhistory: usize,
-    nweights: usize,
-    x: usize,
-    out: usize,
-    rows: usize,
+    block: Block,
 ) -> bool
-    ensures { Exactly result (CallFits sh place bias m nwork nhistory nweights x out rows) }
+    ensures { Exactly result (CallFits filter.now.shape place bias block.columns (length work.now) (length history.now) (length filter.now.weights.now)
+        block.x block.out block.rows) }
 {
-    if 1 < bias {
-        return false;
-    }
-    if !within(m, 1, 1024) {
-        return false;
-    }
-    if !in_range(sh) {
-        return false;
-    }
-    if !parts_fit(sh, place, nhistory, nweights) {
-        return false;
-    }
-    if !regions_fit(nwork, sh.ins * m, sh.outs * m, x, out, rows) {
-        return false;
-    }
-    true
+    bias <= 1
+        && (1..=1024).contains(&block.columns)
+        && in_range(filter.shape)
+        && parts_fit(filter, place, history)
+        && regions_fit(work, filter.shape, block)
 }
 
 // m columns of one convolution. work holds three regions: at x the columns, planar, at out room for the outputs, and at rows room that is used up.
@@ -187,41 +134,29 @@ pub extern "C" fn conv_block(
         weights.now m x out rows work.old (record { history = history.old; place = place.old })
         result work.new (record { history = history.new; place = place.new }) }
 {
-    let sh = Shape {
+    let biased = bias == 1;
+    let shape = Shape {
         ins,
         outs,
         kernel,
         dilation,
         groups,
-        biased: bias == 1,
+        biased,
     };
-    let at = *place;
-    if !call_fits(
-        sh,
-        at,
-        bias,
-        m,
-        work.len(),
-        history.len(),
-        weights.len(),
-        x,
-        out,
-        rows,
-    ) {
-        return 1;
-    }
-    let len = sh.ring_length();
-    let filter = Filter { shape: sh, weights };
-    let mut memory = Memory {
-        history,
-        ring: Ring { at, len },
-    };
+    let filter = Filter { shape, weights };
     let block = Block {
         x,
         out,
         rows,
         columns: m,
     };
+    let at = *place;
+    if !call_fits(work, history, at, &filter, bias, block) {
+        return 1;
+    }
+    let len = shape.ring_length();
+    let ring = Ring { at, len };
+    let mut memory = Memory { history, ring };
     conv::conv(work, &mut memory, &filter, block);
     *place = memory.ring.at;
     0
