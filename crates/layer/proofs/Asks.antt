@@ -20,6 +20,7 @@ use Rattle.description.specs.Tally.{past_all}
 use Rattle.description.specs.ZeroRules.{bit}
 use Rattle.description.specs.declared.records.ArrayRecord.{ArrayRecord}
 use Rattle.description.specs.declared.records.LayerRecord.{LayerRecord}
+use Rattle.description.specs.Part.{Part}
 use Rattle.description.specs.declared.places.Place.{Place}
 use Rattle.description.proofs.Slots.{slot_site, not_absent}
 use Rattle.slot.specs.Play.{PlayFits}
@@ -118,6 +119,11 @@ applied_whole a r i h e = by (applied a r i h)
     by : Applied a r i → part_of a r (4 + i) ≡ applied_site a r i
     by (as_is q) = sym q
     by (not_applied q) = absurd (true≢false (e ∙ ap is_there q))
+
+-- a part that is not there
+pub not_played : (p : Part) → false ≡ is_there p → p ≡ None
+not_played None e = refl
+not_played (Some sh) e = absurd (false≢true e)
 
 -- a part that is there, of one that a 0 makes absent
 shape_unless : (n : ℕ) (s sh : Shape) → unless0 n s ≡ Some sh → s ≡ sh

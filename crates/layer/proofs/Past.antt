@@ -22,6 +22,7 @@ use Rattle.slot.specs.View.{memory_in, weights_in}
 use Rattle.slot.specs.Steps.{pushed, convolved, sited}
 use Rattle.slot.specs.Play.{Played}
 use Rattle.slot.specs.Site.{result_at, Sited}
+use Rattle.slot.proofs.Sites.{site_absent}
 use Rattle.slot.proofs.Trace.{play_trace, site_trace, place_stays, site_place_stays, memory_kept}
 use Rattle.layer.specs.Column.{applied_site, site, site'}
 use Rattle.layer.specs.Layered.{slot_place, slot_memory, slot_weights, memories_at, LayerFits}
@@ -124,6 +125,11 @@ module _ {a : ArrayRecord} {r : LayerRecord} {start : Place} {size m nwork : ℕ
       by = λ x c s v u held. (site_under_way x c s v u held, (does x c s v u held (applied a r i hi)).1);
       leaves = site_leaves;
     }
+
+  -- a site that is not played: nothing is done
+  pub site_left_out : (i : ℕ) → i < 8 → {from to : ℕ} → 4 * size ≤ to → {work : List Float} → applied_site a r i ≡ None
+      → SitePast a r start weights size m work histories positions work histories positions i from to from
+  site_left_out i h past q = site_past i h past (site_absent _ _ _ _ _ _ _ _ _ _ _ _ _ _ _ q)
 
   -- ---- the convolution of slot k
   module _ (k : ℕ) (hk : k < 4) {from to : ℕ} {work : List Float} where

@@ -118,7 +118,6 @@ module _ (a : ArrayRecord) (r : LayerRecord) (start : Place) (s : Slots) (first 
     (e11 : s.head1x1_post ≡ slot_place a r start 11)
     (e12 : s.end ≡ slot_place a r start 12) where
   place_is : (k : ℕ) → k ≤ 12 → place_in s k ≡ slot_place a r start k
-  unfolding place_in
   place_is zero h = first ∙ sym (slot_first a r start)
   place_is (suc zero) h = e1
   place_is (suc (suc zero)) h = e2

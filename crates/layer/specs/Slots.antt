@@ -7,7 +7,7 @@ use Rattle.layer.specs.declared.slots.Slots.{Slots}
 use Rattle.layer.specs.Layered.{slot_place}
 
 -- place k of twelve, and the end
-unfoldable pub place_in : Slots → ℕ → Place
+abbrev pub place_in : Slots → ℕ → Place
 place_in s k =
     get_or
     (s.conv ∷ s.mixin ∷ s.layer1x1 ∷ s.head1x1 ∷ s.conv_pre ∷ s.conv_post ∷ s.input_mixin_pre ∷ s.input_mixin_post ∷ s.activation_pre ∷ s.activation_post

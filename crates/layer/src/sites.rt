@@ -1,7 +1,6 @@
 // The convolutions and FiLM sites of a layer, on their regions. Document 01, 'The recurrence' (FiLM, Layer). The rules number sites and slots.
-ghost use Rattle.std.specs.Prelude.{◌≡◌, ◌⊎◌, ◌+◌, ◌*◌, ◌≤◌, ◌<◌};
+ghost use Rattle.std.specs.Prelude.{◌≡◌, true, ◌⊎◌, ◌+◌, ◌*◌, ◌≤◌, ◌<◌};
 ghost use Rattle.description.specs.Parts.{site_width};
-ghost use Rattle.description.specs.Ranges.{ArrayRanges, LayerRanges};
 ghost use Rattle.description.specs.ZeroRules.{bit};
 ghost use Rattle.slot.specs.Bench.{SameBench};
 ghost use Rattle.layer.specs.Column.{applied_site, is_blended, is_there};
@@ -9,7 +8,7 @@ ghost use Rattle.layer.specs.Held.{ConvPiece, Ready, SitePiece};
 ghost use Rattle.layer.specs.Pieces.{Behind, Room};
 
 use crate::Layer;
-use description::parts::{Part, core, slot};
+use description::parts::{core, slot};
 use gating::Mode;
 use slot::Bench;
 
@@ -39,19 +38,6 @@ impl Layer<'_> {
         (groups != 0) & ((i != 6) | applies)
     }
 
-    // Site i as it is applied. Most are absent, and that is asked first: a part is made from the whole records.
-    fn applied_site(&self, i: usize) -> Part
-        requires array_ranges { ArrayRanges self.now.array }
-        requires layer_ranges { LayerRanges self.now.own }
-        requires behind { Behind self.now.array self.now.own i }
-        ensures { result ≡ applied_site self.now.array self.now.own i }
-    {
-        if !self.plays(i) {
-            return None;
-        }
-        slot(self.array, self.own, 4 + i)
-    }
-
     // The convolution of slot k, from a region to another, if it is there. Region 11 is used up.
     pub fn convolve(&self, bench: &mut Bench<'_>, k: usize, from: usize, to: usize)
         requires ready { Ready self.now bench.old }
@@ -67,7 +53,9 @@ impl Layer<'_> {
         bench.play(self.weights, from, to, rows, sh, at, self.columns);
     }
 
-    // FiLM site i: w channels from a region to another, or in place. It answers where they are. Regions 9 to 11 are used up.
+    // FiLM site i, if it is played: w channels from a region to another, or in place. It answers where they are. Regions 9 to 11 are used up. Most sites
+    // are not played and a call is often one column, so what asks stands in the piece that calls it: a call for each absent site was slower.
+    #[inline(always)]
     pub fn modulate(
         &self,
         bench: &mut Bench<'_>,
@@ -82,7 +70,22 @@ impl Layer<'_> {
         ensures same { SameBench bench.old bench.new }
         ensures past { SitePiece self.now bench.old bench.new i from to result }
     {
-        let part = self.applied_site(i);
+        if !self.plays(i) {
+            return from;
+        }
+        self.play_site(bench, i, from, to, w)
+    }
+
+    // The same of a site that is played.
+    fn play_site(&self, bench: &mut Bench<'_>, i: usize, from: usize, to: usize, w: usize) -> usize
+        requires ready { Ready self.now bench.old }
+        requires behind { Behind self.now.array self.now.own i × Room self.now.size to × (w ≡ site_width self.now.array self.now.own i) }
+        requires places { (from ≡ to) ⊎ ((from + self.now.size ≤ to) × (to ≤ 9 * self.now.size)) }
+        requires played { true ≡ is_there (applied_site self.now.array self.now.own i) }
+        ensures same { SameBench bench.old bench.new }
+        ensures past { SitePiece self.now bench.old bench.new i from to result }
+    {
+        let part = slot(self.array, self.own, 4 + i);
         let with_shift = self.shifted(i);
         let at = self.slots.place(4 + i);
         let condition = 3 * self.size;

@@ -10,7 +10,8 @@ use description::parts::{core, slot};
 use description::places::Place;
 use description::records::{ArrayRecord, LayerRecord};
 
-// Where the numbers of a layer's slots start, and where those of the next layer do.
+// Where the numbers of a layer's slots start, and where those of the next layer do. An array that a loop fills is slower: LLVM makes each slot's part
+// where the slot's number stands in the code; with a number that runs it took 780 instructions a layer for 240.
 #[derive(Clone, Copy)]
 pub struct Slots {
     pub conv: Place,
@@ -30,9 +31,9 @@ pub struct Slots {
 
 impl Slots {
     // The place of slot k.
-    pub fn place(self, k: usize) -> Place
+    pub fn place(&self, k: usize) -> Place
         requires { k < 12 }
-        ensures { result ≡ place_in self k }
+        ensures { result ≡ place_in self.now k }
     {
         match k {
             0 => self.conv,
