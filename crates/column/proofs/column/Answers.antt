@@ -13,6 +13,3 @@ store-requires c =
 
 pub outputs-requires : goal.outputs-requires
 outputs-requires c = (parts_after _ _ 1 c.args.memory.now.history.now _ _ c.requires.0 c.store.ensures.stored c.store.ensures.kept.1, c.requires.2)
-
-pub returns-clause-pushed : goal.returns-clause-pushed
-returns-clause-pushed c = rw c.requires.0.ring_is at c.store.ensures.stored

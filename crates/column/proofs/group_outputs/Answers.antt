@@ -1,17 +1,11 @@
 -- A stretch of outputs more a turn, by `outputs_turn`.
-use mathlib.Core.Path.{◌≡◌, sym}
-use Prim.Native.Nat.{◌-◌}
+use mathlib.Core.Path.{sym}
 use native.Mathlib.Omega.{arith}
 use borrow.Author.Rules.{rules}
 use Rattle.lists.proofs.Rows.{rows_none}
-use Rattle.column.proofs.Indices.{group_end, group_fits, stretch}
+use Rattle.column.proofs.Indices.{group_end}
 use Rattle.column.proofs.OneColumn.{outputs_turn}
 use Rattle.column.proofs.group_outputs.Goals as goal
-
-pub outputs_per_group-opg-requires : goal.outputs_per_group-opg-requires
-outputs_per_group-opg-requires c =
-    let pre = c.requires in
-    pre.0.range
 
 pub overflow_mul-first : goal.overflow_mul-first
 overflow_mul-first c =
@@ -37,18 +31,6 @@ overflow_add-first c =
     let end = rw (sym e) at (group_end d r args.g pre.1) in
     omega (arith, end, r.outs_high, c.loop-i-test.true)
 
-pub next_outputs-i-requires : goal.next_outputs-i-requires
-next_outputs-i-requires c =
-    let pre = c.requires in
-    let args = c.args in
-    let loop = c.loop-i in
-    let opg = c.outputs_per_group-opg in (
-      pre.0,
-      stretch loop.i (opg.result - loop.i) (group_fits pre.0.divided pre.0.range args.g opg.result opg.result pre.1 opg.ensures (omega arith)) (omega (arith, loop.invariant.0)),
-      omega (arith, c.loop-i-test.true),
-      λ o ho. omega (arith, loop.invariant.1, pre.2 o ho),
-    )
-
 pub loop-i-preserved : goal.loop-i-preserved
 loop-i-preserved c =
     let args = c.args in
@@ -58,10 +40,3 @@ loop-i-preserved c =
       omega (arith, next.auto.work, loop.invariant.1),
       outputs_turn args.filter.now.shape args.filter.now.weights.now _ args.work.now loop.work _ _ _ _ loop.i next.result loop.invariant.2 next.ensures.done,
     )
-
-pub returns : goal.returns
-returns c =
-    let outputs-per-group = c.outputs_per_group-opg in
-    let loop = c.loop-i in
-    let all : loop.i ≡ outputs-per-group.result = omega (arith, loop.invariant.0, c.loop-i-test.false) in
-    rw outputs-per-group.ensures at (rw all at loop.invariant.2)

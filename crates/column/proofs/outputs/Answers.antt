@@ -14,11 +14,6 @@ loop-g-init c =
     let args = c.args in
     let none : 0 * outputs_per_group args.filter.now.shape ≡ 0 = omega arith in (search rules, search rules, rw none (rows_none _ _ _ _ _))
 
-pub group_outputs-requires : goal.group_outputs-requires
-group_outputs-requires c =
-    let pre = c.requires in
-    (pre.0, c.loop-g-test.true, λ o ho. omega (arith, c.loop-g.invariant.1, pre.1 o ho))
-
 pub loop-g-preserved : goal.loop-g-preserved
 loop-g-preserved c =
     let args = c.args in

@@ -4,14 +4,6 @@ use native.Mathlib.Omega.{arith}
 use Rattle.conv.proofs.Blocks.{store_fits, columns_are}
 use Rattle.conv.proofs.columns.Goals as goal
 
-pub start-requires : goal.start-requires
-start-requires c =
-    let f = c.requires.0 in
-    (f.parts.range, f.parts.divided, f.parts.weights_is, f.out_in)
-
-pub taps-requires : goal.taps-requires
-taps-requires c = (rw c.start.auto.work c.requires.0, c.requires.1)
-
 pub store-requires : goal.store-requires
 store-requires c = store_fits c.requires.0 _ (omega (arith, c.taps.auto.work, c.start.auto.work))
 

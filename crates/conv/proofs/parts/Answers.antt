@@ -1,39 +1,18 @@
 -- The columns before t are done; each part goes on from the memory after them, by `begun_more`.
-use mathlib.Core.Path.{◌≡◌, ◌∙◌}
+use mathlib.Core.Path.{◌∙◌}
 use Prim.Native.Nat.{◌+◌, ◌≤◌}
 use native.Mathlib.Omega.{arith}
 use borrow.Author.Rules.{rules}
-use Rattle.conv.proofs.Cuts.{begun_none, begun_all, part_fits, begun_more}
+use Rattle.conv.proofs.Cuts.{begun_none, part_fits, begun_more}
 use Rattle.conv.proofs.parts.Goals as goal
 
 pub loop-t-init : goal.loop-t-init
 loop-t-init c = (search rules, search rules, search rules, begun_none _ _ _ _ _ _ _ _)
 
-pub width-columns-requires : goal.width-columns-requires
-width-columns-requires c = omega (arith, c.loop-t-test.true)
-
-pub overflow_add-x : goal.overflow_add-x
-overflow_add-x c =
-    let cut = c.width-columns.ensures in
-    let fit = part_fits c.requires c.loop-t.invariant.3 c.width-columns.result _ _ cut.some (omega (arith, cut.within, c.loop-t-test.true)) c.loop-t.invariant.2.1 c.loop-t.invariant.1 in
-    omega (arith, fit.x_in 0 fit.parts.range.ins_low)
-
-pub overflow_add-out : goal.overflow_add-out
-overflow_add-out c =
-    let cut = c.width-columns.ensures in
-    let fit = part_fits c.requires c.loop-t.invariant.3 c.width-columns.result _ _ cut.some (omega (arith, cut.within, c.loop-t-test.true)) c.loop-t.invariant.2.1 c.loop-t.invariant.1 in
-    omega (arith, fit.out_in 0 fit.parts.range.outs_low)
-
 pub part-requires : goal.part-requires
 part-requires c =
     let cut = c.width-columns.ensures in
     (part_fits c.requires c.loop-t.invariant.3 c.width-columns.result _ _ cut.some (omega (arith, cut.within, c.loop-t-test.true)) c.loop-t.invariant.2.1 c.loop-t.invariant.1, cut.whole)
-
-pub overflow_add-t : goal.overflow_add-t
-overflow_add-t c = omega (arith, c.width-columns.ensures.within, c.loop-t-test.true)
-
-pub loop-t-smaller : goal.loop-t-smaller
-loop-t-smaller c = omega (arith, c.width-columns.ensures.within, c.width-columns.ensures.some, c.loop-t-test.true)
 
 pub loop-t-preserved : goal.loop-t-preserved
 loop-t-preserved c =
@@ -45,7 +24,3 @@ loop-t-preserved c =
       (part.ensures.kept.0 ∙ loop.invariant.2.0, part.ensures.kept.1 ∙ loop.invariant.2.1),
       begun_more c.requires loop.invariant.3 c.width-columns.result _ _ le part.ensures.done,
     )
-
-pub returns-clause-done : goal.returns-clause-done
-returns-clause-done c =
-    let e : c.loop-t.t ≡ c.args.block.columns = omega (arith, c.loop-t.invariant.0, c.loop-t-test.false) in begun_all (rw e at c.loop-t.invariant.3)

@@ -1,18 +1,7 @@
 -- Both ways the tap reads what it should see: `tapped_here`, `tapped_rows`.
 use mathlib.Core.Path.{refl, sym, ◌∙◌}
-use Rattle.conv.proofs.Blocks.{block_tap_fits, rows_tap_fits, gather_fits, tapped_here, tapped_rows}
+use Rattle.conv.proofs.Blocks.{gather_fits, tapped_here, tapped_rows}
 use Rattle.conv.proofs.read_tap.Goals as goal
-
-pub steps_back-back-requires : goal.steps_back-back-requires
-steps_back-back-requires c =
-    let pre = c.requires in
-    (pre.0.parts.range, pre.2)
-
-pub tap-requires : goal.tap-requires
-tap-requires c =
-    let pre = c.requires in
-    let args = c.args in
-    block_tap_fits pre.0 args.k pre.2 pre.1
 
 pub gather-requires : goal.gather-requires
 gather-requires c =
@@ -20,13 +9,6 @@ gather-requires c =
     let args = c.args in
     let steps_back = c.steps_back-back in
     gather_fits pre.0 args.k _ steps_back.ensures
-
-pub tap-requires-else-in_place : goal.tap-requires-else-in_place
-tap-requires-else-in_place c =
-    let pre = c.requires in
-    let args = c.args in
-    let gather = c.gather in
-    rows_tap_fits pre.0 args.k _ pre.2 pre.1 gather.auto.work
 
 pub returns-then-in_place : goal.returns-then-in_place
 returns-then-in_place c =

@@ -1,5 +1,4 @@
 -- One row more a turn, by `start_turn`.
-use mathlib.Core.Path.{◌≡◌}
 use Prim.Native.Nat.{◌+◌}
 use native.Mathlib.Omega.{arith}
 use borrow.Author.Rules.{rules}
@@ -8,9 +7,6 @@ use Rattle.shape.proofs.Bounds.{kernel_le}
 use Rattle.column.proofs.Indices.{bias_in}
 use Rattle.conv.proofs.Rows.{start_turn}
 use Rattle.conv.proofs.start.Goals as goal
-
-pub kernel_count-count-requires : goal.kernel_count-count-requires
-kernel_count-count-requires c = c.requires.0
 
 pub loop-o-init : goal.loop-o-init
 loop-o-init c = (search rules, search rules, rows_none _ _ _ _ _)
@@ -26,24 +22,6 @@ bias-b-requires c =
     let pre = c.requires in
     λ b. omega (arith, c.kernel_count-count.ensures, bias_in args.filter.now.shape (c.loop-o.o + 1) _ pre.2 (omega (arith, c.loop-o-test.true)) b)
 
-pub overflow_mul-o : goal.overflow_mul-o
-overflow_mul-o c =
-    let pre = c.requires in
-    let loop = c.loop-o in
-    omega (arith, pre.3 loop.o c.loop-o-test.true, loop.invariant.1)
-
-pub overflow_add-out : goal.overflow_add-out
-overflow_add-out c =
-    let pre = c.requires in
-    let loop = c.loop-o in
-    omega (arith, pre.3 loop.o c.loop-o-test.true, loop.invariant.1)
-
-pub flat-requires : goal.flat-requires
-flat-requires c =
-    let pre = c.requires in
-    let loop = c.loop-o in
-    omega (arith, pre.3 loop.o c.loop-o-test.true, loop.invariant.1)
-
 pub loop-o-preserved : goal.loop-o-preserved
 loop-o-preserved c =
     let args = c.args in
@@ -55,9 +33,3 @@ loop-o-preserved c =
       omega (arith, flat.auto.work, loop.invariant.1),
       start_turn args.filter.now.shape _ _ loop.work _ _ _ _ _ _ _ kernel-count.ensures loop.invariant.2 bias.ensures flat.ensures,
     )
-
-pub returns : goal.returns
-returns c =
-    let args = c.args in
-    let loop = c.loop-o in
-    let e : loop.o ≡ args.filter.now.shape.outs = omega arith in rw e at loop.invariant.2

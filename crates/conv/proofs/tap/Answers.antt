@@ -12,11 +12,6 @@ use Rattle.conv.proofs.tap.Goals as goal
 pub loop-g-init : goal.loop-g-init
 loop-g-init c = let none : 0 * outputs_per_group c.args.filter.now.shape ≡ 0 = omega arith in (search rules, search rules, rw none (rows_none _ _ _ _ _))
 
-pub tap_group-requires : goal.tap_group-requires
-tap_group-requires c =
-    let pre = c.requires in
-    (rw c.loop-g.invariant.1 (pre), c.loop-g-test.true)
-
 pub loop-g-preserved : goal.loop-g-preserved
 loop-g-preserved c =
     let pre = c.requires in

@@ -1,5 +1,5 @@
 -- One output's row more a turn, by `group_turn`.
-use mathlib.Core.Path.{◌≡◌, refl, sym}
+use mathlib.Core.Path.{refl, sym}
 use Prim.Native.Nat.{◌+◌, ◌*◌}
 use native.Mathlib.Nat.{le-mul_of_pos_right}
 use native.Mathlib.Omega.{arith}
@@ -9,14 +9,6 @@ use Rattle.shape.proofs.Groups.{some_out}
 use Rattle.lists.proofs.Rows.{rows_none}
 use Rattle.conv.proofs.Rows.{row_fits, group_turn}
 use Rattle.conv.proofs.tap_group.Goals as goal
-
-pub inputs_per_group-ipg-requires : goal.inputs_per_group-ipg-requires
-inputs_per_group-ipg-requires c = c.requires.0.range
-
-pub outputs_per_group-opg-requires : goal.outputs_per_group-opg-requires
-outputs_per_group-opg-requires c =
-    let pre = c.requires in
-    pre.0.range
 
 pub overflow_mul-row : goal.overflow_mul-row
 overflow_mul-row c =
@@ -177,9 +169,3 @@ loop-i-preserved c =
       omega (arith, add_row.auto.work, loop.invariant.1),
       group_turn pre.0 _ args.work.now loop.work _ args.g loop.i _ _ pre.1 loop-test.true e1 e2 loop.invariant.2 add_row.ensures,
     )
-
-pub returns : goal.returns
-returns c =
-    let outputs-per-group = c.outputs_per_group-opg in
-    let loop = c.loop-i in
-    let e : loop.i ≡ outputs-per-group.result = omega arith in rw outputs-per-group.ensures at (rw e at loop.invariant.2)

@@ -10,11 +10,6 @@ loop-k-init c =
     let pre = c.requires in
     (search rules, search rules, all_none pre.0 _ _ _)
 
-pub read_tap-requires : goal.read_tap-requires
-read_tap-requires c =
-    let pre = c.requires in
-    (rw c.loop-k.invariant.1 pre.0, pre.1, c.loop-k-test.true)
-
 pub loop-k-preserved : goal.loop-k-preserved
 loop-k-preserved c =
     let pre = c.requires in

@@ -1,5 +1,5 @@
 -- After k taps each lane has the sum through k taps, by `lane_is` and `taps_more`.
-use mathlib.Core.Path.{◌≡◌, ◌∙◌, ap}
+use mathlib.Core.Path.{◌∙◌, ap}
 use Prim.Native.Nat.{◌-◌}
 use native.Mathlib.Omega.{arith}
 use lib.ListN.{length}
@@ -11,9 +11,6 @@ use Rattle.column.proofs.Indices.{reach}
 use Rattle.column.proofs.Sums.{column_found, taps_none, taps_more, base_in, between_in, column_inside, outputs_fit, lane_is}
 use Rattle.lists.specs.Tab.{at}
 use Rattle.column.proofs.lanes.taps.Goals as goal
-
-pub inputs_per_group-ipg-requires : goal.inputs_per_group-ipg-requires
-inputs_per_group-ipg-requires g c = c.requires.0.range
 
 pub overflow_mul-base : goal.overflow_mul-base
 overflow_mul-base g c =
@@ -32,11 +29,6 @@ overflow_mul-w g c =
 
 pub loop-k-init : goal.loop-k-init
 loop-k-init g c = (search rules, search rules, search rules, is_tab nan _ g.row.L _ (search rules) (λ i hi. taps_none _ _ _ _ _))
-
-pub steps_back-back-requires : goal.steps_back-back-requires
-steps_back-back-requires g c =
-    let pre = c.requires in
-    (pre.0.range, c.loop-k-test.true)
 
 pub back-column-requires : goal.back-column-requires
 back-column-requires g c =
@@ -112,9 +104,3 @@ loop-k-preserved g c =
           (rw (c.add_outputs-more.ensures, at-tab nan g.row.L _ i hi)
           (lane_is f h e args.memory.now.history.now args.filter.now.weights.now loop.k back.result i (at loop.r i) column hi))),
     )
-
-pub returns : goal.returns
-returns g c =
-    let args = c.args in
-    let loop = c.loop-k in
-    let e : loop.k ≡ args.filter.now.shape.kernel = omega arith in rw e at loop.invariant.3
