@@ -4,13 +4,17 @@
 
 ghost use Rattle.std.specs.Prelude.{◌≡◌, true, ◌+◌, ◌*◌, ◌≤◌, length, get_or};
 ghost use Rattle.film.specs.Fits.{ReadFirst};
+ghost use Rattle.conv.specs.Fits.{ConvFits};
+ghost use Rattle.conv.specs.Does.{Convolved};
 ghost use Rattle.slot.specs.Bench.{SameBench};
 ghost use Rattle.slot.specs.Play.{PlayFits, Played};
 ghost use Rattle.slot.specs.Site.{SiteFits, Sited};
 
+use column::Filter;
+use conv::Block;
 use description::parts::Part;
 use description::places::Place;
-use ring::Ring;
+use ring::{Memory, Ring};
 use shape::Shape;
 
 // The buffers that a convolution's step changes: the numbers under way, and what all convolutions remember.
@@ -19,6 +23,25 @@ pub struct Bench<'a> {
     pub work: &'a mut [f32],
     pub histories: &'a mut [f32],
     pub positions: &'a mut [u32],
+}
+
+// A block through a convolution whose history is lent by itself; answers the place of the last column. (The end of a part of the histories is known
+// where the part is a parameter: a struct that is made over a part tells nothing of it.)
+fn convolve(
+    work: &mut [f32],
+    history: &mut [f32],
+    ring: Ring,
+    filter: &Filter<'_>,
+    block: Block,
+) -> usize
+    requires { ConvFits filter.now.shape ring.at ring.len block.columns (length work.old) (length history.old) (length filter.now.weights.now)
+        block.x block.out block.rows }
+    ensures { Convolved filter.now.shape filter.now.weights.now block.columns block.x block.out block.rows
+        work.old (record { history = history.old; place = ring.at }) work.new (record { history = history.new; place = result }) }
+{
+    let mut memory = Memory { history, ring };
+    conv::conv(work, &mut memory, filter, block);
+    memory.ring.at
 }
 
 impl Bench<'_> {
@@ -49,18 +72,18 @@ impl Bench<'_> {
             at: place,
             len: sh.ring_length(),
         };
-        let moved = conv::conv(
-            self.work,
-            &mut self.histories[h0..h1],
-            &weights[w0..w1],
+        let filter = Filter {
+            shape: sh,
+            weights: &weights[w0..w1],
+        };
+        let block = Block {
             x,
             out,
             rows,
-            ring,
-            sh,
-            m,
-        );
-        let next = moved.at;
+            columns: m,
+        };
+        let own = &mut self.histories[h0..h1];
+        let next = convolve(self.work, own, ring, &filter, block);
         self.positions[i] = next as u32;
     }
 
