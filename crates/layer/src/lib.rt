@@ -15,8 +15,8 @@ use slot::Bench;
 // A layer, and the block that it takes: `columns` columns in regions of `size` numbers.
 #[derive(Clone, Copy)]
 pub struct Layer<'a> {
-    pub array: ArrayRecord,
-    pub own: LayerRecord,
+    pub array: &'a ArrayRecord,
+    pub own: &'a LayerRecord,
     pub slots: Slots,
     pub weights: &'a [f32],
     pub size: usize,

@@ -21,7 +21,7 @@ impl Layer<'_> {
         let to = 7 * self.size;
         let from = self.modulate(bench, 0, input, spare, self.array.channels);
         self.convolve(bench, 0, from, to);
-        self.modulate(bench, 1, to, to, doubled(self.own));
+        self.modulate(bench, 1, to, to, doubled(*self.own));
     }
 
     // Mixin input = site 2 of the condition or the condition; mixin; site 3.
@@ -35,7 +35,7 @@ impl Layer<'_> {
         let to = 8 * self.size;
         let from = self.modulate(bench, 2, condition, spare, self.array.condition);
         self.convolve(bench, 1, from, to);
-        self.modulate(bench, 3, to, to, doubled(self.own));
+        self.modulate(bench, 3, to, to, doubled(*self.own));
     }
 
     // z = conv + mixin; site 4; gating; site 5.
@@ -44,7 +44,7 @@ impl Layer<'_> {
         ensures same { SameBench bench.old bench.new }
         ensures piece { Piece GatedPast self.now bench.old bench.new }
     {
-        let mid = doubled(self.own);
+        let mid = doubled(*self.own);
         let width = self.own.bottleneck;
         let to = 6 * self.size;
         let z = 7 * self.size;

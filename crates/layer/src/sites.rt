@@ -22,7 +22,7 @@ impl Layer<'_> {
     // Whether site i has shifts.
     fn shifted(&self, i: usize) -> bool
         requires { i < 8 }
-        ensures { result ≡ bit self.now.own.shift_bits i }
+        ensures { result ≡ bit self.now.own.now.shift_bits i }
     {
         let bits = self.own.shift_bits;
         (bits >> i) % 2 == 1
@@ -30,8 +30,8 @@ impl Layer<'_> {
 
     // Whether site i is played: site 6 only in Blended.
     fn plays(&self, i: usize) -> bool
-        requires { Behind self.now.array self.now.own i }
-        ensures { result ≡ is_there (applied_site self.now.array self.now.own i) }
+        requires { Behind self.now.array.now self.now.own.now i }
+        ensures { result ≡ is_there (applied_site self.now.array.now self.now.own.now i) }
     {
         let applies = blended(self.own.mode);
         let groups = self.own.sites[i];
@@ -45,7 +45,7 @@ impl Layer<'_> {
         ensures same { SameBench bench.old bench.new }
         ensures past { ConvPiece self.now bench.old bench.new k from to }
     {
-        let Some(sh) = core(self.array, self.own, k) else {
+        let Some(sh) = core(*self.array, *self.own, k) else {
             return;
         };
         let at = self.slots.place(k);
@@ -65,7 +65,7 @@ impl Layer<'_> {
         w: usize,
     ) -> usize
         requires ready { Ready self.now bench.old }
-        requires behind { Behind self.now.array self.now.own i × Room self.now.size to × (w ≡ site_width self.now.array self.now.own i) }
+        requires behind { Behind self.now.array.now self.now.own.now i × Room self.now.size to × (w ≡ site_width self.now.array.now self.now.own.now i) }
         requires places { (from ≡ to) ⊎ ((from + self.now.size ≤ to) × (to ≤ 9 * self.now.size)) }
         ensures same { SameBench bench.old bench.new }
         ensures past { SitePiece self.now bench.old bench.new i from to result }
@@ -79,13 +79,13 @@ impl Layer<'_> {
     // The same of a site that is played.
     fn play_site(&self, bench: &mut Bench<'_>, i: usize, from: usize, to: usize, w: usize) -> usize
         requires ready { Ready self.now bench.old }
-        requires behind { Behind self.now.array self.now.own i × Room self.now.size to × (w ≡ site_width self.now.array self.now.own i) }
+        requires behind { Behind self.now.array.now self.now.own.now i × Room self.now.size to × (w ≡ site_width self.now.array.now self.now.own.now i) }
         requires places { (from ≡ to) ⊎ ((from + self.now.size ≤ to) × (to ≤ 9 * self.now.size)) }
-        requires played { true ≡ is_there (applied_site self.now.array self.now.own i) }
+        requires played { true ≡ is_there (applied_site self.now.array.now self.now.own.now i) }
         ensures same { SameBench bench.old bench.new }
         ensures past { SitePiece self.now bench.old bench.new i from to result }
     {
-        let part = slot(self.array, self.own, 4 + i);
+        let part = slot(*self.array, *self.own, 4 + i);
         let with_shift = self.shifted(i);
         let at = self.slots.place(4 + i);
         let condition = 3 * self.size;

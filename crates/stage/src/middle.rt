@@ -34,16 +34,15 @@ pub fn layer_turn(
 {
     let a = read_array(sources.description);
     let r = layer_record(sources.description, l);
-    let slots = slots_from(a, r, start);
-    bring(scratch, sources.condition, a, span);
     let layer = Layer {
-        array: a,
-        own: r,
-        slots,
+        array: &a,
+        own: &r,
+        slots: slots_from(a, r, start),
         weights: sources.weights,
         size: span.size,
         columns: span.count,
     };
+    bring(scratch, sources.condition, a, span);
     let mut bench = Bench {
         work: &mut *scratch,
         histories: &mut *buffers.histories,
@@ -51,5 +50,5 @@ pub fn layer_turn(
     };
     let result = layer.play(&mut bench);
     hand_on(scratch, a, span, result);
-    slots.end
+    layer.slots.end
 }

@@ -15,14 +15,14 @@ pub gating-requires : goal.gating-requires
 gating-requires c =
     let f = c.requires.layer_fits in
     let sum = rw c.doubled-mid.ensures at c.add_to.ensures in
-    let f1 = fits_on f (add_leaves _ _ f (7 * c.args.self.now.size) (mid c.args.self.now.own) _ f.mid_in sum) in
+    let f1 = fits_on f (add_leaves _ _ f (7 * c.args.self.now.size) (mid c.args.self.now.own.now) _ f.mid_in sum) in
     gating_fits (fits_on f1 (in_place c.modulate.ensures.past).leaves)
 
 pub modulate-requires-2-clause-ready : goal.modulate-requires-2-clause-ready
 modulate-requires-2-clause-ready c =
     let f = c.requires.layer_fits in
     let sum = rw c.doubled-mid.ensures at c.add_to.ensures in
-    let f1 = fits_on f (add_leaves _ _ f (7 * c.args.self.now.size) (mid c.args.self.now.own) _ f.mid_in sum) in
+    let f1 = fits_on f (add_leaves _ _ f (7 * c.args.self.now.size) (mid c.args.self.now.own.now) _ f.mid_in sum) in
     let f2 = fits_on f1 (in_place c.modulate.ensures.past).leaves in
     record { layer_fits = fits_on f2 (gating_leaves _ _ f2 c.gating.ensures); slots_of = c.requires.slots_of }
 

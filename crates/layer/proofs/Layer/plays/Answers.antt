@@ -5,4 +5,4 @@ use Rattle.layer.proofs.Asks.{plays_is}
 use Rattle.layer.proofs.Layer.plays.Goals as goal
 
 pub returns : goal.returns
-returns c = plays_is _ _ _ _ c.blended-applies.ensures c.requires (site_groups c.args.self.now.own.sites c.args.i) refl
+returns c = plays_is _ _ _ _ c.blended-applies.ensures c.requires (site_groups c.args.self.now.own.now.sites c.args.i) refl

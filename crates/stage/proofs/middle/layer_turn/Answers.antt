@@ -15,8 +15,8 @@ read_array-a-requires c = omega (arith, length_is c.args.sources.now.description
 pub layer_record-r-requires : goal.layer_record-r-requires
 layer_record-r-requires c = omega (arith, length_is c.args.sources.now.description.now c.requires.stage_fits.sound, c.requires.l_bound)
 
-pub slots_from-slots-requires : goal.slots_from-slots-requires
-slots_from-slots-requires c =
+pub slots_from-requires : goal.slots_from-requires
+slots_from-requires c =
     let f = slots_fit c.args.sources.now.weights.now c.args.buffers.now.histories.now c.requires.stage_fits c.requires.l_bound c.read_array-a.ensures c.layer_record-r.ensures in
     record { array_ranges = f.0; layer_ranges = f.1; low = f.2 }
 
@@ -27,9 +27,9 @@ bring-requires c =
 pub play-result-requires : goal.play-result-requires
 play-result-requires c =
     record {
-      layer_fits = layer_fits c.args.sources.now.weights.now c.args.buffers.now.histories.now c.requires.stage_fits c.requires.l_bound c.read_array-a.ensures c.layer_record-r.ensures c.slots_from-slots.ensures.0
+      layer_fits = layer_fits c.args.sources.now.weights.now c.args.buffers.now.histories.now c.requires.stage_fits c.requires.l_bound c.read_array-a.ensures c.layer_record-r.ensures c.slots_from.ensures.0
           (c.bring.auto.scratch ∙ c.requires.stage_fits.scratch_is);
-      slots_of = c.slots_from-slots.ensures.1;
+      slots_of = c.slots_from.ensures.1;
     }
 
 pub hand_on-requires : goal.hand_on-requires
@@ -39,9 +39,9 @@ hand_on-requires c =
 pub returns : goal.returns
 returns c =
     let t = layer_turn c.args.sources.now.weights.now c.args.buffers.now.histories.now c.requires.stage_fits c.requires.l_bound c.args.sources.now.condition.now _ _ _ _ refl
-    c.read_array-a.ensures c.layer_record-r.ensures c.slots_from-slots.ensures.0 c.bring.ensures (layered_as (search rules) (search rules) (search rules) c.play-result.ensures.layered) c.hand_on.ensures in
+    c.read_array-a.ensures c.layer_record-r.ensures c.slots_from.ensures.0 c.bring.ensures (layered_as (search rules) (search rules) (search rules) c.play-result.ensures.layered) c.hand_on.ensures in
     record {
-      value = c.slots_from-slots.ensures.2 ∙ end_is c.args.sources.now.weights.now c.args.buffers.now.histories.now c.requires.stage_fits c.requires.l_bound c.read_array-a.ensures c.layer_record-r.ensures;
+      value = c.slots_from.ensures.2 ∙ end_is c.args.sources.now.weights.now c.args.buffers.now.histories.now c.requires.stage_fits c.requires.l_bound c.read_array-a.ensures c.layer_record-r.ensures;
       turn_done = t.by _ _ _ _;
       placed = t.places;
       same = record {

@@ -1,5 +1,4 @@
 -- The last arm's number is the only one that is left.
-use Rattle.layer.specs.Slots.{place_in}
 use mathlib.Core.Path.{◌≡◌}
 use native.Mathlib.Omega.{arith}
 use Rattle.layer.proofs.slots.Slots.place.Goals as goal
