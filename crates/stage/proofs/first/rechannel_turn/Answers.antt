@@ -63,13 +63,18 @@ pub returns : goal.returns
 returns c =
     let is = sym c.rechannel-sh.ensures in
     let t = entry_turn c.args.sources.now.input.now c.args.sources.now.head_in.now _ _ _ _ _ c.read_array-a.result c.read_array-a.ensures c.requires.stage_fits is c.columns.ensures (played_as (search rules) (search rules) (search rules) c.play.ensures.played) c.columns_within.ensures c.columns-2.ensures in
-    record { value = c.past.ensures ∙ t.0; turn_done = t.1.by _ _ _; placed = t.1.places; same = record {
-      histories = refl;
-      positions = refl;
-      head_out = refl;
-      array_out = refl;
-      histories_long = search rules;
-      positions_long = search rules;
-      head_long = refl;
-      array_long = refl;
-    } }
+    record {
+      value = c.past.ensures ∙ t.0;
+      turn_done = t.1.by _ _ _;
+      placed = t.1.places;
+      same = record {
+        histories = refl;
+        positions = refl;
+        head_out = refl;
+        array_out = refl;
+        histories_long = search rules;
+        positions_long = search rules;
+        head_long = refl;
+        array_long = refl;
+      };
+    }

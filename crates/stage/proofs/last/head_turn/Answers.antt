@@ -64,13 +64,18 @@ pub returns : goal.returns
 returns c =
     let is = sym c.head_rechannel-sh.ensures in
     let t = exit_turn _ _ _ _ _ _ _ c.read_array-a.result c.read_array-a.ensures c.requires.stage_fits c.requires.head_out_len.0 c.requires.head_out_len.1 is c.columns_within.ensures (played_as (search rules) (search rules) (search rules) c.play.ensures.played) c.columns.ensures c.columns-2.ensures in
-    record { value = c.past.ensures ∙ t.0; turn_done = t.1.by _ _ _; placed = t.1.places; same = record {
-      histories = refl;
-      positions = refl;
-      head_out = refl;
-      array_out = refl;
-      histories_long = search rules;
-      positions_long = search rules;
-      head_long = c.columns.auto.dst;
-      array_long = c.columns-2.auto.dst;
-    } }
+    record {
+      value = c.past.ensures ∙ t.0;
+      turn_done = t.1.by _ _ _;
+      placed = t.1.places;
+      same = record {
+        histories = refl;
+        positions = refl;
+        head_out = refl;
+        array_out = refl;
+        histories_long = search rules;
+        positions_long = search rules;
+        head_long = c.columns.auto.dst;
+        array_long = c.columns-2.auto.dst;
+      };
+    }

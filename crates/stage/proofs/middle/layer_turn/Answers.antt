@@ -45,13 +45,13 @@ returns c =
       turn_done = t.by _ _ _ _;
       placed = t.places;
       same = record {
-      histories = refl;
-      positions = refl;
-      head_out = refl;
-      array_out = refl;
-      histories_long = search rules;
-      positions_long = search rules;
-      head_long = refl;
-      array_long = refl;
-    };
+        histories = refl;
+        positions = refl;
+        head_out = refl;
+        array_out = refl;
+        histories_long = search rules;
+        positions_long = search rules;
+        head_long = refl;
+        array_long = refl;
+      };
     }
