@@ -1,8 +1,9 @@
 -- A tap on every output row: what the turns of `start`, `tap_group` and `tap` come to. Assumes nothing.
-use mathlib.Core.Path.{◌≡◌, sym, ◌∙◌}
+use mathlib.Core.Path.{◌≡◌, refl, sym, ◌∙◌}
 use mathlib.Core.Bool.{cond}
 use mathlib.Core.List.{List}
 use Prim.Native.Nat.{ℕ, ◌+◌, ◌*◌, ◌≤◌, ◌<◌}
+use native.Mathlib.Nat.{le-mul_of_pos_right}
 use native.Mathlib.Omega.{arith}
 use lib.Ieee.{Float, nan, binary32, of_bits}
 use Rattle.lists.specs.Tab.{at, fill, rows}
@@ -24,6 +25,12 @@ pub start_turn : (sh : Shape) (weights old work last : List Float) (out m n o co
     → last ≡ fill (out + o * m) n (λ t. b) work → last ≡ rows out m n (o + 1) (λ o t. start_of sh weights o) old
 unfolding start_of
 start_turn sh weights old work last out m n o count b e r h l = rows_more out m n o _ _ work old last r l (λ t ht. rw (h, e))
+
+pub record RowBounds (nwork nweights out m kernel k first i ipg opg : ℕ) : Type 0 where
+  pub group_high : first + opg ≤ 128
+  pub sums_high : out + (first + i) * m ≤ nwork
+  pub weight_high : (first + i) * ipg * kernel + k < nweights
+  pub first_high : (first + i) * ipg ≤ (first + i) * ipg * kernel
 
 module _ {sh : Shape} {nwork nweights out m from stride n k : ℕ} (f : TapFits sh nwork nweights out m from stride n k) where
   -- the sums of output i of group g, and the rows that they read
@@ -47,6 +54,23 @@ module _ {sh : Shape} {nwork nweights out m from stride n k : ℕ} (f : TapFits 
         };
         apart = λ j hj. omega (arith, f.apart (g * opg + i) (g * ipg + j) o-in (c-in j hj));
       }
+
+  -- the numbers by which the code finds them: none is beyond the last sum or weight
+  pub row_bounds : (g i ipg opg : ℕ) → g < sh.groups → i < opg → ipg ≡ inputs_per_group sh → opg ≡ outputs_per_group sh → RowBounds nwork nweights out m sh.kernel k (g * opg) i ipg opg
+  row_bounds g i ipg opg hg hi e1 e2 =
+      let fit = row_fits g i ipg opg nwork hg hi e1 e2 refl in
+      record {
+        group_high = rw e2 (omega (arith, group_end f.divided f.range g hg, f.range.outs_high));
+        sums_high = omega (arith, fit.sums_in);
+        weight_high = omega (arith, fit.inputs.weights_inside 0 fit.some);
+        first_high = le-mul_of_pos_right {m = sh.kernel} ((g * opg + i) * ipg) f.range.kernel_low;
+      }
+
+  pub first_row : (g ipg : ℕ) → g < sh.groups → ipg ≡ inputs_per_group sh → (g * ipg ≤ 128) × (from + g * ipg * stride ≤ nwork)
+  first_row g ipg hg e =
+      let end = rw (sym e) at (inputs_end f.divided f.range g hg) in
+      let some : 0 < ipg = rw e (some_in f.divided f.range) in
+      (omega (arith, end, f.range.ins_high), omega (arith, f.from_in (g * ipg) (omega (arith, end, some))))
 
   -- what the tap reads and adds to, of output o at column t, once the w rows from `first` on were done
   module _ (weights old work : List Float) (first w : ℕ) (g : ℕ → ℕ → Float) (e : work ≡ rows (out + first * m) m n w g old) (within : first + w ≤ sh.outs) where
