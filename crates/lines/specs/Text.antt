@@ -1,9 +1,10 @@
 -- What is printed, as bytes. Document 01, 'The program': "Each whole column prints index (decimal), head outputs, array outputs, as 8 lowercase hex
 -- digits, NaN as 7fc00000, one space between. Last line: `end` and the count, or `refused` and the number". Every line ends in a newline.
-use Rattle.std.specs.Prelude.{Bool, true, false, cond, List, [], ◌∷◌, ◌++◌, ℕ, zero, suc, ◌+◌, ◌-◌, ◌*◌, ◌/◌, ◌%◌, ◌^◌, eqb, ltb, Float}
+use Rattle.std.specs.Prelude.{Bool, true, false, cond, List, [], ◌∷◌, ◌++◌, ℕ, zero, suc, ◌+◌, ◌-◌, ◌*◌, ◌/◌, ◌%◌, ◌^◌, eqb, ltb, Float, Result, Ok, Err}
 use Rattle.std.specs.Float.{binary32}
 use Rattle.std.specs.Float.Ieee.{to_bits}
 use Rattle.lists.specs.Tab.{at, tab}
+use Rattle.refusal.specs.declared.Refusal.{Refusal}
 
 -- a digit below 16: `0` to `9`, then `a` to `f`
 unfoldable pub hex_digit : ℕ → ℕ
@@ -58,3 +59,8 @@ last_of number count =
     cond (eqb number 0)
     (named_of (101 ∷ 110 ∷ 100 ∷ 32 ∷ []) count)
     (named_of (114 ∷ 101 ∷ 102 ∷ 117 ∷ 115 ∷ 101 ∷ 100 ∷ 32 ∷ []) number)
+
+-- the count of an outcome, and none where it is a refusal, which is printed by its number alone
+abbrev pub count_in : Result ℕ Refusal → ℕ
+count_in (Ok count) = count
+count_in (Err refusal) = 0

@@ -2,15 +2,28 @@
 // `write!` promises its text only where it answers `Ok`, and here there is no other answer: so the digits are put by hand.
 #![tactic(auto)]
 
-ghost use Rattle.std.specs.Prelude.{◌≡◌, ◌+◌, ◌*◌, ◌<◌, ◌≤◌, [], ◌∷◌, length};
-ghost use Rattle.lines.specs.Text.{column_of, decimal_of, hex_digit, hex_of, last_of, line_of, lines_of, named_of, outputs_of, spaced_of, values_text};
-ghost use Rattle.lines.specs.Lines.{Blank, Printed, Room, Wrote};
+ghost use Rattle.std.specs.Prelude.{◌≡◌, ◌+◌, ◌*◌, ◌<◌, ◌≤◌, [], ◌∷◌, length, IfOk};
+ghost use Rattle.refusal.specs.Number.{number_of};
+ghost use Rattle.lines.specs.Text.{column_of, count_in, decimal_of, hex_digit, hex_of, last_of, line_of, lines_of, named_of, spaced_of, values_text};
+ghost use Rattle.lines.specs.Lines.{Blank, Held, Printed, Wrote, outputs};
+
+use refusal::Refusal;
 
 fn hex_digit(d: u32) -> u8
     requires { d < 16 }
     ensures { result ≡ hex_digit d }
 {
     b"0123456789abcdef"[d as usize]
+}
+
+// A planar block of columns to be printed: head outputs and array outputs, each with its number of rows.
+#[derive(Clone, Copy)]
+pub struct Columns<'a> {
+    pub head: &'a [f32],
+    pub heads: usize,
+    pub array: &'a [f32],
+    pub arrays: usize,
+    pub count: usize,
 }
 
 // A lent buffer, and the place in it where the next text goes.
@@ -85,45 +98,28 @@ impl Page<'_> {
     }
 
     // The line of column t.
-    fn put_line(
-        &mut self,
-        index: usize,
-        head: &[f32],
-        heads: usize,
-        array: &[f32],
-        arrays: usize,
-        t: usize,
-        n: usize,
-    )
-        requires room { Room (length head.now) heads (length array.now) arrays n }
-        requires t_lt_n { (t < n) × (index < 4294967296) × Blank self.old (9 * (heads + arrays) + 11) }
+    fn put_line(&mut self, columns: Columns<'_>, index: usize, t: usize)
+        requires room { Held columns }
+        requires t_lt_n { (t < columns.count) × (index < 4294967296) × Blank self.old (9 * (columns.heads + columns.arrays) + 11) }
         ensures same_reference { self.new.bytes.ghost_name ≡ self.old.bytes.ghost_name }
-        ensures wrote { Wrote self.old (line_of index (outputs_of n heads head.now arrays array.now t)) self.new }
+        ensures wrote { Wrote self.old (line_of index (outputs columns.entry t)) self.new }
     {
         self.put_decimal(index);
-        self.put_column(head, t, n, heads);
-        self.put_column(array, t, n, arrays);
+        self.put_column(columns.head, t, columns.count, columns.heads);
+        self.put_column(columns.array, t, columns.count, columns.arrays);
         self.put(b'\n');
     }
 }
 
-// The lines of a planar block of n columns, from the start of the buffer; answers how many bytes they are.
-pub fn put_lines(
-    out: &mut [u8],
-    first: usize,
-    head: &[f32],
-    heads: usize,
-    array: &[f32],
-    arrays: usize,
-    n: usize,
-) -> usize
-    requires room { Room (length head.now) heads (length array.now) arrays n }
-    requires n_bound { (first + n ≤ 4294967296) × (n * (9 * (heads + arrays) + 11) ≤ length out.old) }
-    ensures { Printed out.old 0 (lines_of first (outputs_of n heads head.now arrays array.now) n) result out.new }
+// The lines of columns, the first of which has this index, from the start of the buffer; answers how many bytes they are.
+pub fn put_lines(out: &mut [u8], first: usize, columns: Columns<'_>) -> usize
+    requires room { Held columns }
+    requires n_bound { (first + columns.count ≤ 4294967296) × (columns.count * (9 * (columns.heads + columns.arrays) + 11) ≤ length out.old) }
+    ensures { Printed out.old 0 (lines_of first (outputs columns.entry) columns.entry.count) result out.new }
 {
     let mut page = Page { bytes: out, at: 0 };
-    for t in 0..n {
-        page.put_line(first + t, head, heads, array, arrays, t, n);
+    for t in 0..columns.count {
+        page.put_line(columns, first + t, t);
     }
     page.at
 }
@@ -140,13 +136,13 @@ fn put_named(out: &mut [u8], text: &[u8], n: usize) -> usize
     page.at
 }
 
-// The last line, from the start of the buffer; answers how many bytes it is.
-pub fn put_last(out: &mut [u8], number: u32, count: usize) -> usize
-    requires { (count < 4294967296) × (19 ≤ length out.old) }
-    ensures { Printed out.old 0 (last_of number count) result out.new }
+// The last line, how many columns were played or why the file is refused, from the start of the buffer; answers how many bytes it is.
+pub fn put_last(out: &mut [u8], outcome: Result<usize, Refusal>) -> usize
+    requires { IfOk outcome (λ count. count < 4294967296) × (19 ≤ length out.old) }
+    ensures { Printed out.old 0 (last_of (number_of outcome) (count_in outcome)) result out.new }
 {
-    if number == 0 {
-        return put_named(out, b"end ", count);
+    match outcome {
+        Ok(count) => put_named(out, b"end ", count),
+        Err(refusal) => put_named(out, b"refused ", u32::from(refusal) as usize),
     }
-    put_named(out, b"refused ", number as usize)
 }

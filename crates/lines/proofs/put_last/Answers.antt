@@ -1,14 +1,18 @@
--- The two cases.
-use borrow.Author.Tests.{eq-eqb, ne_eqb}
+-- The two cases: a refusal's number is not 0.
+use borrow.Author.Tests.{ne_eqb}
 use mathlib.Core.Path.{◌≡◌}
 use native.Mathlib.Omega.{arith}
+use Rattle.refusal.specs.Number.{number}
+use Rattle.refusal.proofs.Named.{number_above}
 use Rattle.lines.specs.Text.{last_of}
 use Rattle.lines.proofs.put_last.Goals as goal
 
-pub returns-then-number-eq0 : goal.returns-then-number-eq0
+pub returns-in-Ok : goal.returns-in-Ok
 unfolding last_of
-returns-then-number-eq0 c = rw (eq-eqb _ _ c.if-number-eq0.true) c.put_named.ensures
+returns-in-Ok c = rw c.in-Ok.is c.put_named.ensures
 
-pub returns : goal.returns
+pub returns-in-Err : goal.returns-in-Err
 unfolding last_of
-returns c = let some : c.args.number ≡ 0 → ⊥ = λ e. omega arith in rw (ne_eqb _ _ some) c.put_named-2.ensures
+returns-in-Err c =
+    let some : number c.in-Err.refusal ≡ 0 → ⊥ = λ e. omega (arith, e, number_above c.in-Err.refusal) in
+    rw (c.in-Err.is, ne_eqb _ _ some) (rw c.from.ensures at c.put_named-in-Err.ensures)
