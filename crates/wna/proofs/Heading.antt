@@ -1,11 +1,14 @@
 -- The answers on a header, from what the tests told. Assumes nothing.
 use Rattle.std.specs.Prelude.{Err, Ok}
-use mathlib.Core.Path.{◌≡◌}
-use mathlib.Core.Bool.{true, false}
-use mathlib.Core.List.{List}
+use mathlib.Core.Path.{◌≡◌, refl, sym}
+use mathlib.Core.Bool.{Bool, true, false, not, ◌||◌, ◌&&◌}
+use mathlib.Core.List.{List, [], ◌∷◌}
 use Prim.Native.Nat.{ℕ, ◌≤◌, ◌<◌}
-use lib.ListN.{get_or, length}
-use borrow.Author.Tests.{eq-eqb, le-ltb, lt-ltb, ne_eqb}
+use native.Mathlib.Omega.{arith}
+use lib.Dec.{eqb}
+use lib.ListN.{length}
+use borrow.Author.Tests.{eq-eqb, eqb-false, eqb-true, le-ltb, lt-ltb, ne_eqb}
+use Rattle.std.specs.List.{starts_with}
 use Rattle.wna.specs.Header.{HeaderAnswers, bad_header, block_of, columns_of, count_of, header_refusal, header_values, other_magic, version_of}
 use Rattle.refusal.specs.declared.Refusal.TheVariants.{File, Room}
 use Rattle.wna.specs.declared.header.Header.{Header}
@@ -51,18 +54,21 @@ module _ (f : List ℕ) where
       whole v ne e c h b n k =
           record { number = rw (good v ne e, le-ltb 584 (count_of f) c); values = rw (good v ne e, le-ltb 584 (count_of f) c, b, n, k) }
 
-  pub first : (get_or f 0 0 ≡ 87 → ⊥) → other_magic f ≡ true
-  unfolding other_magic
-  first ne = rw (ne_eqb (get_or f 0 0) 87 ne)
+-- ---- the three bytes: that the file starts with them, as the code asks it, and each of them, as the definition has it
+swapped : (x y : ℕ) (z : Bool) → eqb x y ≡ z → eqb y x ≡ z
+swapped x y true e = eq-eqb y x (sym (eqb-true x y e))
+swapped x y false e = ne_eqb y x (λ q. eqb-false x y e (sym q))
 
-  pub second : get_or f 0 0 ≡ 87 → (get_or f 1 0 ≡ 78 → ⊥) → other_magic f ≡ true
-  unfolding other_magic
-  second a ne = rw (eq-eqb (get_or f 0 0) 87 a, ne_eqb (get_or f 1 0) 78 ne)
+other_of : (a b c : Bool) → not a || not b || not c ≡ not (a && (b && (c && true)))
+other_of false b c = refl
+other_of true false c = refl
+other_of true true false = refl
+other_of true true true = refl
 
-  pub third : get_or f 0 0 ≡ 87 → get_or f 1 0 ≡ 78 → (get_or f 2 0 ≡ 65 → ⊥) → other_magic f ≡ true
-  unfolding other_magic
-  third a b ne = rw (eq-eqb (get_or f 0 0) 87 a, eq-eqb (get_or f 1 0) 78 b, ne_eqb (get_or f 2 0) 65 ne)
-
-  pub ours : get_or f 0 0 ≡ 87 → get_or f 1 0 ≡ 78 → get_or f 2 0 ≡ 65 → other_magic f ≡ false
-  unfolding other_magic
-  ours a b c = rw (eq-eqb (get_or f 0 0) 87 a, eq-eqb (get_or f 1 0) 78 b, eq-eqb (get_or f 2 0) 65 c)
+pub magic_is : (f : List ℕ) → 3 ≤ length f → other_magic f ≡ not (starts_with eqb f (87 ∷ 78 ∷ 65 ∷ []))
+unfolding other_magic
+magic_is [] h = absurd (omega (arith, h))
+magic_is (x ∷ []) h = absurd (omega (arith, h))
+magic_is (x ∷ y ∷ []) h = absurd (omega (arith, h))
+magic_is (x ∷ y ∷ z ∷ rest) h =
+    rw (swapped 87 x (eqb 87 x) refl, swapped 78 y (eqb 78 y) refl, swapped 65 z (eqb 65 z) refl) (other_of (eqb 87 x) (eqb 78 y) (eqb 65 z))

@@ -23,26 +23,11 @@ pub struct Header {
 pub fn read_header(bytes: &[u8]) -> Result<Header, Refusal>
     ensures { HeaderAnswers bytes.now result }
 {
-    if bytes.len() < HEADER_LENGTH {
-        return Err(Refusal::File);
-    }
-    if bytes[0] != b'W' {
-        return Err(Refusal::File);
-    }
-    if bytes[1] != b'N' {
-        return Err(Refusal::File);
-    }
-    if bytes[2] != b'A' {
-        return Err(Refusal::File);
-    }
-    if half(bytes, 3) != 1 {
+    if bytes.len() < HEADER_LENGTH || !bytes.starts_with(b"WNA") || half(bytes, 3) != 1 {
         return Err(Refusal::File);
     }
     let block = half(bytes, 5) as usize;
-    if block == 0 {
-        return Err(Refusal::File);
-    }
-    if LARGEST_BLOCK < block {
+    if block == 0 || LARGEST_BLOCK < block {
         return Err(Refusal::File);
     }
     let count = word(bytes, 7) as usize;
