@@ -16,7 +16,7 @@ use Rattle.film.specs.Modulated.{modulated, modulation_of}
 use Rattle.activation.specs.Activated.{relu, leaky, sigmoid, activated}
 use Rattle.gating.specs.Joined.{input_rows, blend, joined}
 use Rattle.description.specs.Limits.{array_limits, layer_limits, breaks_range}
-use Rattle.description.specs.Parts.{mid, unless0, site_groups, rechannel_of, head_rechannel_of, conv_of, mixin_of, layer1x1_of, head1x1_of, site_width, site_of, slots_of, each_layer, parts_to, parts_of, uneven_of}
+use Rattle.description.specs.Parts.{mid, unless0, rechannel_of, head_rechannel_of, conv_of, mixin_of, layer1x1_of, head1x1_of, site_width, site_of, slots_of, each_layer, parts_to, parts_of, uneven_of}
 use Rattle.description.specs.Records.{array_of, mode_of, activation_of, sites_of, layer_of}
 use Rattle.description.specs.Refusals.{refused1, breaks_layer, refused2, refused3, head_width, unmatched_of, refused4, refused5, refusal_of}
 use Rattle.description.specs.Sizes.{weights_of, histories_of, positions_of, total, place_of, place_at, largest, widest_of, sum_below, depth_of, sizes_of}

@@ -1,5 +1,5 @@
 -- What fits into the program's buffers, in numbers. Assumes nothing.
-use mathlib.Core.Path.{◌≡◌, subst}
+use mathlib.Core.Path.{◌≡◌, ◌∙◌, subst}
 use mathlib.Core.List.{List}
 use Prim.Native.Nat.{ℕ, ◌+◌, ◌*◌, ◌/◌, ◌≤◌, ◌<◌}
 use native.Mathlib.Nat.{mul-div-le, mul-le-mul_left}
@@ -14,6 +14,8 @@ use Rattle.wna.specs.Stream.{next_block, whole_in}
 use Rattle.player.specs.Fits.{Fits, Ready, Suits, Wide}
 use Rattle.std.specs.Prelude.{OnErr, Ok, Err, Result}
 use Rattle.player.specs.Plays.{Heard, Partly}
+use Rattle.player.specs.Lent.{SameDesk}
+use Rattle.player.specs.declared.lent.Desk.{Desk}
 
 -- a block's text
 pub text_room : (a : ArrayRecord) (n l : ℕ) → Fits a n → n ≤ 1024 → 29696 ≤ l → n * (9 * (a.head_size + a.channels) + 11) ≤ l
@@ -91,3 +93,12 @@ partly played most heard = record { played = played; most = most; heard = heard 
 pub partly_of : {d : List ℕ} {w histories : List Float} {positions : List ℕ} {first n columns : ℕ}
     → Partly d w first n histories positions → first + n ≤ columns → Partly d w 0 columns histories positions
 partly_of {first = first} p le = partly (first + p.played) (omega (arith, p.most)) (heard_at p.heard (omega arith))
+
+-- the same desk after one call and another
+pub same_on : {k k' k'' : Desk} → SameDesk k k' → SameDesk k' k'' → SameDesk k k''
+same_on a b = record {
+  histories = b.histories ∙ a.histories;
+  positions = b.positions ∙ a.positions;
+  text = b.text ∙ a.text;
+  text_long = b.text_long ∙ a.text_long;
+}

@@ -1,3 +1,4 @@
 pub mod Fits
+pub mod Lent
 pub mod Plays
 pub mod Whole

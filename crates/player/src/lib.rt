@@ -3,6 +3,7 @@
 // (specs/Plays.antt), and specs/Whole.antt puts all of it together. Document 01, 'The program'.
 #![tactic(auto)]
 
+pub mod lent;
 pub mod stream;
 pub mod turn;
 
@@ -10,100 +11,65 @@ ghost use Rattle.std.specs.Prelude.{◌≡◌, length};
 ghost use Rattle.wna.specs.Header.{LowHeader};
 ghost use Rattle.wna.specs.Opening.{Opened};
 
+use crate::lent::{Desk, Model};
 use crate::stream::{last, stream};
 use description::answers::Sizes;
 use description::records::read_array;
 use reading::read_full;
 use std::io;
 use std::io::{Read, Write};
-use wna::header::{Header, read_header};
-use wna::opening::{take_description, take_weights};
+use wna::header::{HEADER_LENGTH, Header, MOST_NUMBERS, read_header};
+use wna::opening::{MOST_HELD, take_description, take_weights};
 
-// From a reset: all columns, and the last line. The reset's own answer is 0: the buffers have the description's sizes.
-fn from_reset<R: Read, W: Write>(
-    reader: &mut R,
-    writer: &mut W,
-    h: Header,
-    s: Sizes,
-    d: &[u32],
-    weights: &[f32],
-    histories: &mut [f32],
-    positions: &mut [u32],
-) -> io::Result<()>
-    requires low_header { LowHeader h }
-    requires opened { Opened d.now s h.block }
-    requires weights_len { length weights.now ≡ s.weights }
-    requires histories_len { (length histories.old ≡ s.histories) × (length positions.old ≡ s.positions) }
-{
-    let mut scratch = [0.0f32; 16384];
-    let mut text = [0u8; 29696];
-    let block = h.block;
-    let columns = h.columns as usize;
-    reset::reset(d, histories, positions).unwrap();
-    let outcome = stream(
-        reader,
-        writer,
-        block,
-        columns,
-        d,
-        read_array(d),
-        weights,
-        histories,
-        positions,
-        &mut scratch,
-        &mut text,
-    )?;
-    match outcome {
-        Ok(()) => last(writer, Ok(columns)),
-        Err(refusal) => last(writer, Err(refusal)),
-    }
+// A file whose header and description are not refused.
+#[derive(Clone, Copy)]
+struct Opening<'a> {
+    header: Header,
+    sizes: Sizes,
+    description: &'a [u32],
+    ghost low: { LowHeader header },
+    ghost opened: { Opened description.now sizes header.block },
 }
 
-// Lends histories and positions of the description's sizes.
+// From a reset: all columns, and the last line. The reset's own answer is 0: the buffers have the description's sizes.
 fn with_weights<R: Read, W: Write>(
     reader: &mut R,
     writer: &mut W,
-    h: Header,
-    s: Sizes,
-    d: &[u32],
+    opening: Opening<'_>,
     weights: &[f32],
 ) -> io::Result<()>
-    requires low_header { LowHeader h }
-    requires opened { Opened d.now s h.block }
-    requires weights_len { length weights.now ≡ s.weights }
+    requires { length weights.now ≡ opening.sizes.weights }
 {
-    let mut histories = [0.0f32; 16384];
+    let mut histories = [0.0f32; MOST_HELD];
     let mut positions = [0u32; 290];
-    let held = s.histories;
-    let parts = s.positions;
-    from_reset(
+    let mut scratch = [0.0f32; 16384];
+    let mut text = [0u8; 29696];
+    let description = opening.description;
+    let histories = &mut histories[..opening.sizes.histories];
+    let positions = &mut positions[..opening.sizes.positions];
+    reset::reset(description, histories, positions).unwrap();
+    let model = Model {
+        description,
+        array: read_array(description),
+        weights,
+    };
+    let mut desk = Desk {
+        histories,
+        positions,
+        text: &mut text,
+    };
+    let columns = opening.header.columns as usize;
+    let block = opening.header.block;
+    match stream(
         reader,
         writer,
-        h,
-        s,
-        d,
-        weights,
-        &mut histories[..held],
-        &mut positions[..parts],
-    )
-}
-
-// The weights, from the bytes that were read.
-fn weighed<R: Read, W: Write>(
-    reader: &mut R,
-    writer: &mut W,
-    h: Header,
-    s: Sizes,
-    d: &[u32],
-    weights: &mut [f32],
-    bytes: &[u8],
-) -> io::Result<()>
-    requires low_header { LowHeader h }
-    requires opened { Opened d.now s h.block }
-    requires weights_len { length weights.old ≡ s.weights }
-{
-    match take_weights(weights, bytes) {
-        Ok(()) => with_weights(reader, writer, h, s, d, weights),
+        model,
+        &mut desk,
+        &mut scratch,
+        block,
+        columns,
+    )? {
+        Ok(()) => last(writer, Ok(columns)),
         Err(refusal) => last(writer, Err(refusal)),
     }
 }
@@ -112,62 +78,44 @@ fn weighed<R: Read, W: Write>(
 fn with_description<R: Read, W: Write>(
     reader: &mut R,
     writer: &mut W,
-    h: Header,
-    s: Sizes,
-    d: &[u32],
-) -> io::Result<()>
-    requires low_header { LowHeader h }
-    requires opened { Opened d.now s h.block }
-{
-    let mut weights = [0.0f32; 16384];
-    let mut bytes = [0u8; 65536];
-    let count = s.weights;
-    let size = 4 * count;
-    let got = read_full(reader, &mut bytes[..size])?;
-    weighed(
-        reader,
-        writer,
-        h,
-        s,
-        d,
-        &mut weights[..count],
-        &bytes[..got],
-    )
-}
-
-// The description, from the bytes that were read.
-fn described<R: Read, W: Write>(
-    reader: &mut R,
-    writer: &mut W,
-    h: Header,
-    numbers: &mut [u32],
-    bytes: &[u8],
-) -> io::Result<()>
-    requires { LowHeader h }
-{
-    match take_description(numbers, bytes, h.block) {
-        Ok(s) => with_description(reader, writer, h, s, numbers),
+    opening: Opening<'_>,
+) -> io::Result<()> {
+    let mut weights = [0.0f32; MOST_HELD];
+    let mut bytes = [0u8; 4 * MOST_HELD];
+    let weights = &mut weights[..opening.sizes.weights];
+    let got = read_full(reader, &mut bytes[..4 * opening.sizes.weights])?;
+    match take_weights(weights, &bytes[..got]) {
+        Ok(()) => with_weights(reader, writer, opening, weights),
         Err(refusal) => last(writer, Err(refusal)),
     }
 }
 
 // Reads the description.
-fn with_header<R: Read, W: Write>(reader: &mut R, writer: &mut W, h: Header) -> io::Result<()>
-    requires { LowHeader h }
+fn with_header<R: Read, W: Write>(reader: &mut R, writer: &mut W, header: Header) -> io::Result<()>
+    requires { LowHeader header }
 {
-    let mut numbers = [0u32; 584];
-    let mut bytes = [0u8; 2336];
-    let count = h.count;
-    let size = 4 * count;
-    let got = read_full(reader, &mut bytes[..size])?;
-    described(reader, writer, h, &mut numbers[..count], &bytes[..got])
+    let mut numbers = [0u32; MOST_NUMBERS];
+    let mut bytes = [0u8; 4 * MOST_NUMBERS];
+    let numbers = &mut numbers[..header.count];
+    let got = read_full(reader, &mut bytes[..4 * header.count])?;
+    match take_description(numbers, &bytes[..got], header.block) {
+        Ok(sizes) => {
+            let opening = Opening {
+                header,
+                sizes,
+                description: numbers,
+            };
+            with_description(reader, writer, opening)
+        }
+        Err(refusal) => last(writer, Err(refusal)),
+    }
 }
 
 pub fn play<R: Read, W: Write>(reader: &mut R, writer: &mut W) -> io::Result<()> {
-    let mut bytes = [0u8; 15];
+    let mut bytes = [0u8; HEADER_LENGTH];
     let got = read_full(reader, &mut bytes)?;
     match read_header(&bytes[..got]) {
-        Ok(h) => with_header(reader, writer, h),
+        Ok(header) => with_header(reader, writer, header),
         Err(refusal) => last(writer, Err(refusal)),
     }
 }

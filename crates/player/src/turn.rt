@@ -2,12 +2,13 @@
 ghost use Rattle.std.specs.Prelude.{◌≡◌, ◌+◌, ◌*◌, ◌≤◌, length, IfOk, OnErr};
 ghost use Rattle.wna.specs.File.{width_of};
 ghost use Rattle.wna.specs.Columns.{spread_of};
-ghost use Rattle.player.specs.Fits.{Fits, Ready};
-ghost use Rattle.player.specs.Plays.{Heard, Partly, Plays};
+ghost use Rattle.player.specs.Fits.{Fits};
+ghost use Rattle.player.specs.Lent.{HasHeard, HasHeardSome, HasPlayed, IsReady, SameDesk};
 
+use crate::lent::{Desk, Model};
 use array::{Buffers, Sources};
 use description::records::ArrayRecord;
-use lines::put_lines;
+use lines::{Columns, put_lines};
 use reading::read_full;
 use std::io;
 use std::io::{Read, Write};
@@ -41,67 +42,73 @@ fn take_columns(
 }
 
 // The columns of the bytes, played and written as text; answers how many bytes that is. The block's own answer is 0: what it is lent fits, and the
-// positions stay in their rings.
+// positions stay in their rings. The planar buffers stay apart: a struct of them, lent beside a desk, tried, and its borrows got no proof.
 fn play_columns(
-    d: &[u32],
-    a: ArrayRecord,
-    weights: &[f32],
-    histories: &mut [f32],
-    positions: &mut [u32],
+    model: Model<'_>,
+    desk: &mut Desk<'_>,
+    scratch: &mut [f32],
     bytes: &[u8],
     input: &mut [f32],
     condition: &mut [f32],
     head_in: &mut [f32],
     head_out: &mut [f32],
     array_out: &mut [f32],
-    scratch: &mut [f32],
-    text: &mut [u8],
     first: usize,
     n: usize,
 ) -> usize
-    requires ready { Ready d.now a n first weights.now histories.old positions.old scratch.old text.old }
-    requires a_in_bounds { 4 * (n * width_of a) ≤ length bytes.now }
-    requires input_len { (length input.old ≡ a.input * n) × (length condition.old ≡ a.condition * n) × (length head_in.old ≡ a.head_in * n) }
-    requires head_out_len { (length head_out.old ≡ a.head_size * n) × (length array_out.old ≡ a.channels * n) }
-    ensures { Plays d.now weights.now bytes.now n first histories.old positions.old text.old result
-        histories.new positions.new text.new }
+    requires ready { IsReady model desk.old scratch.old n first }
+    requires in_bounds { 4 * (n * width_of model.array) ≤ length bytes.now }
+    requires input_len { (length input.old ≡ model.array.input * n) × (length condition.old ≡ model.array.condition * n) × (length head_in.old ≡ model.array.head_in * n) }
+    requires head_out_len { (length head_out.old ≡ model.array.head_size * n) × (length array_out.old ≡ model.array.channels * n) }
+    ensures same { SameDesk desk.old desk.new }
+    ensures plays { HasPlayed model.entry bytes.now n first desk.old result desk.new }
 {
+    let Model {
+        description,
+        array: a,
+        weights,
+    } = model;
     take_columns(bytes, a, n, input, condition, head_in);
     let sources = Sources {
-        description: d,
+        description,
         weights,
         input,
         condition,
         head_in,
     };
     let mut buffers = Buffers {
-        histories,
-        positions,
+        histories: &mut *desk.histories,
+        positions: &mut *desk.positions,
         head_out,
         array_out,
     };
     calls::block(&sources, &mut buffers, scratch, n).unwrap();
-    put_lines(text, first, head_out, a.head_size, array_out, a.channels, n)
+    let columns = Columns {
+        head: head_out,
+        heads: a.head_size,
+        array: array_out,
+        arrays: a.channels,
+        count: n,
+    };
+    put_lines(desk.text, first, columns)
 }
 
 // The columns of the bytes, played and printed. Lends planar buffers of the right lengths.
 fn print_columns<W: Write>(
     writer: &mut W,
-    d: &[u32],
-    a: ArrayRecord,
-    weights: &[f32],
-    histories: &mut [f32],
-    positions: &mut [u32],
-    bytes: &[u8],
+    model: Model<'_>,
+    desk: &mut Desk<'_>,
     scratch: &mut [f32],
-    text: &mut [u8],
+    bytes: &[u8],
     first: usize,
     n: usize,
 ) -> io::Result<()>
-    requires ready { Ready d.now a n first weights.now histories.old positions.old scratch.old text.old }
-    requires a_in_bounds { 4 * (n * width_of a) ≤ length bytes.now }
-    ensures { Heard d.now weights.now (first + n) histories.new positions.new }
+    requires ready { IsReady model desk.old scratch.old n first }
+    requires in_bounds { 4 * (n * width_of model.array) ≤ length bytes.now }
+    ensures same { SameDesk desk.old desk.new }
+    ensures heard { HasHeard model.entry (first + n) desk.new }
 {
+    let a = model.array;
     let mut input = [0.0f32; 1024];
     let mut condition = [0.0f32; 1024];
     let mut head_in = [0.0f32; 1024];
@@ -113,62 +120,44 @@ fn print_columns<W: Write>(
     let outs = a.head_size * n;
     let arrays = a.channels * n;
     let size = play_columns(
-        d,
-        a,
-        weights,
-        histories,
-        positions,
+        model,
+        desk,
+        scratch,
         bytes,
         &mut input[..inputs],
         &mut condition[..conditions],
         &mut head_in[..heads],
         &mut head_out[..outs],
         &mut array_out[..arrays],
-        scratch,
-        text,
         first,
         n,
     );
-    writer.write_all(&text[..size])
+    writer.write_all(&desk.text[..size])
 }
 
 // Reads the next block's n columns; plays and prints those that are whole, and answers how many they are.
 pub fn turn<R: Read, W: Write>(
     reader: &mut R,
     writer: &mut W,
-    d: &[u32],
-    a: ArrayRecord,
-    weights: &[f32],
-    histories: &mut [f32],
-    positions: &mut [u32],
+    model: Model<'_>,
+    desk: &mut Desk<'_>,
     scratch: &mut [f32],
-    text: &mut [u8],
     first: usize,
     n: usize,
 ) -> io::Result<usize>
-    requires { Ready d.now a n first weights.now histories.old positions.old scratch.old text.old }
-    ensures heard { IfOk result (λ whole. (whole ≤ n) × Heard d.now weights.now (first + whole) histories.new positions.new) }
-    ensures err { OnErr result (Partly d.now weights.now first n histories.new positions.new) }
+    requires { IsReady model desk.old scratch.old n first }
+    ensures same { SameDesk desk.old desk.new }
+    ensures heard { IfOk result (λ whole. (whole ≤ n) × HasHeard model.entry (first + whole) desk.new) }
+    ensures err { OnErr result (HasHeardSome model.entry first n desk.new) }
 {
     let mut bytes = [0u8; 12288];
+    let a = model.array;
     let width = a.input + a.condition + a.head_in;
     let size = 4 * (n * width);
     let got = read_full(reader, &mut bytes[..size])?;
     let whole = whole_columns(got, width);
     if 0 < whole {
-        print_columns(
-            writer,
-            d,
-            a,
-            weights,
-            histories,
-            positions,
-            &bytes[..got],
-            scratch,
-            text,
-            first,
-            whole,
-        )?;
+        print_columns(writer, model, desk, scratch, &bytes[..got], first, whole)?;
     }
     Ok(whole)
 }

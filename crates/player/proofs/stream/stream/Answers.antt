@@ -1,12 +1,12 @@
 use Rattle.std.proofs.Common.{arith}
-use Rattle.player.proofs.Room.{heard_at, next_is, on_err, partly, partly_of, ready_on}
+use Rattle.player.proofs.Room.{heard_at, next_is, on_err, partly, partly_of, ready_on, same_on}
 use Rattle.player.proofs.stream.stream.Goals as goal
 
 pub turn-requires : goal.turn-requires
 turn-requires g c =
     let next = next_is c.args.block c.loop-left.left c.next_block-n.ensures c.requires.le_block.0 c.loop-left-test.true in
     ready_on c.requires.ready next.within c.loop-left.invariant.heard (omega (arith, next.there, c.loop-left.invariant.counted, c.requires.le_block.1))
-    (omega (arith, c.loop-left.auto.scratch, c.requires.ready.scratch_room)) (omega (arith, c.loop-left.auto.text, c.requires.ready.text_room))
+    (omega (arith, c.loop-left.auto.scratch, c.requires.ready.scratch_room)) (omega (arith, c.loop-left.invariant.same.text_long, c.requires.ready.text_room))
 
 pub returns-in_err-played-clause-err : goal.returns-in_err-played-clause-err
 returns-in_err-played-clause-err g c =
@@ -38,6 +38,7 @@ loop-left-preserved g c =
     let next = next_is c.args.block c.loop-left.left c.next_block-n.ensures c.requires.le_block.0 c.loop-left-test.true in
     record {
       counted = omega (arith, next.there, c.loop-left.invariant.counted);
+      same = same_on c.loop-left.invariant.same c.in_ok-played.ensures.same;
       heard = heard_at c.in_ok-played.ensures.heard.1 (omega (arith, next.there, c.loop-left.invariant.counted, c.in_ok-played.ensures.heard.0));
     }
 

@@ -16,8 +16,8 @@ unwrap-requires c =
       array_out = c.requires.head_out_len.1;
     }))
 
-pub returns : goal.returns
-returns c =
+pub returns-clause-plays : goal.returns-clause-plays
+returns-clause-plays c =
     plays _ _ _ (handed c.block.ensures.answers refl (search rules) (search rules) (search rules) (search rules) refl) (not_refused _ _ _ _ _ c.requires.ready (record {
       input = omega (arith, c.take_columns.auto.input, c.requires.input_len.0);
       condition = omega (arith, c.take_columns.auto.condition, c.requires.input_len.1);

@@ -2,5 +2,5 @@
 use Rattle.player.proofs.Hearing.{heard_more}
 use Rattle.player.proofs.turn.print_columns.Goals as goal
 
-pub returns : goal.returns
-returns g c = heard_more c.requires.ready.heard c.play_columns-size.ensures
+pub returns-clause-heard : goal.returns-clause-heard
+returns-clause-heard g c = heard_more c.requires.ready.heard c.play_columns-size.ensures.plays
