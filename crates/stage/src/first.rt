@@ -27,6 +27,7 @@ pub fn rechannel_turn(
     ensures value { result ≡ start_of sources.now.description.now (suc 0) }
     ensures turn_done { TurnTaken sources.now buffers.old scratch.old buffers.new scratch.new span 0 }
     ensures placed { Placed sources.now.description.now buffers.new.positions.now }
+    ensures outputs_kept { (buffers.new.head_out.now ≡ buffers.old.head_out.now) × (buffers.new.array_out.now ≡ buffers.old.array_out.now) }
     ensures same { SameBuffers buffers.old buffers.new }
 {
     let a = read_array(sources.description);

@@ -30,6 +30,7 @@ pub fn layer_turn(
     ensures value { result ≡ start_of sources.now.description.now (suc (suc l)) }
     ensures turn_done { TurnTaken sources.now buffers.old scratch.old buffers.new scratch.new span (suc l) }
     ensures placed { Placed sources.now.description.now buffers.new.positions.now }
+    ensures outputs_kept { (buffers.new.head_out.now ≡ buffers.old.head_out.now) × (buffers.new.array_out.now ≡ buffers.old.array_out.now) }
     ensures same { SameBuffers buffers.old buffers.new }
 {
     let a = read_array(sources.description);

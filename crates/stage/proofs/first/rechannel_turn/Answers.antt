@@ -67,6 +67,7 @@ returns c =
       value = c.past.ensures ∙ t.0;
       turn_done = t.1.by _ _ _;
       placed = t.1.places;
+      outputs_kept = (refl, refl);
       same = record {
         histories = refl;
         positions = refl;

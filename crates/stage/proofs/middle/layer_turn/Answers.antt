@@ -44,6 +44,7 @@ returns c =
       value = c.slots_from.ensures.2 ∙ end_is c.args.sources.now.weights.now c.args.buffers.now.histories.now c.requires.stage_fits c.requires.l_bound c.read_array-a.ensures c.layer_record-r.ensures;
       turn_done = t.by _ _ _ _;
       placed = t.places;
+      outputs_kept = (refl, refl);
       same = record {
         histories = refl;
         positions = refl;
