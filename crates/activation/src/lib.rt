@@ -42,7 +42,8 @@ fn sigmoid_of(x: f32) -> f32
     1.0 / (1.0 + exponent::exp(-x))
 }
 
-// f over n numbers of a buffer from `from` on, to `to` on. A number is read before its place is written, also where the two stretches are one.
+// f over n numbers of a buffer from `from` on, to `to` on. A number is read before its place is written, also where the two stretches are one:
+// so by index.
 fn over<F: Fn(f32) -> f32>(work: &mut [f32], to: usize, from: usize, n: usize, f: F)
     requires callable { F.IsAlwaysCallable f }
     requires inside { (to ≤ from) × (from + n ≤ length work.old) }

@@ -110,7 +110,7 @@ fn call_fits(
 }
 
 // m columns of one convolution. work holds three regions: at x the columns, planar, at out room for the outputs, and at rows room that is used up.
-// place is the place of the column pushed last. 0, or 1 where a number or a size is wrong.
+// place is the place of the column pushed last. C is answered 0, or 1 where a number or a size is wrong.
 #[unsafe(no_mangle)]
 pub extern "C" fn conv_block(
     work: &mut [f32],

@@ -123,7 +123,7 @@ fn last_width(a: ArrayRecord, r: LayerRecord) -> usize
     width
 }
 
-// The width of site i.
+// The width of site i. Sites and slots go by their numbers, here and above: the rules number them, and weights, histories and positions lie in that order.
 fn site_width(a: ArrayRecord, r: LayerRecord, i: usize) -> usize
     requires layer_ranges { LayerRanges r }
     requires i_bound { i < 8 }

@@ -65,6 +65,7 @@ pub fn read_array(description: &[u32]) -> ArrayRecord
     }
 }
 
+// Whatever number stands there, as `mode_of` reads it: that it is one of the three is told before, by the table of limits, so there is no error to answer.
 fn read_mode(code: u32) -> Mode
     ensures { result ≡ mode_of code }
 {
@@ -75,7 +76,7 @@ fn read_mode(code: u32) -> Mode
     }
 }
 
-// Only code 3 has a slope.
+// Only code 3 has a slope. Of any number, as `read_mode`.
 fn read_activation(code: u32, slope: u32) -> Activation
     ensures { result ≡ activation_of code slope }
 {

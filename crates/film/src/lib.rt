@@ -41,6 +41,7 @@ impl Modulation {
 }
 
 // The n numbers at `from`, modulated by the scales at s and the shifts at s + n, to n numbers at `to`, one after the other.
+// By index: numbers, scales and results lie in one buffer.
 fn one_by_one(work: &mut [f32], to: usize, from: usize, s: usize, n: usize, shifted: bool)
     requires { FilmFits (length work.old) to s n shifted × (from + n ≤ length work.old) × ReadFirst to from n }
     ensures { work.new ≡ fill to n (filmed shifted s n work.old from) work.old }

@@ -33,6 +33,7 @@ impl Mode {
 }
 
 // p(a) at out becomes p(a) x s(g). This loop and the next read different regions: one over a closure would be no shorter.
+// By index, since the regions are of one buffer.
 fn scale_by(work: &mut [f32], out: usize, s: usize, n: usize)
     requires { (out + n ≤ s) × (s + n ≤ length work.old) }
     ensures { work.new ≡ fill out n

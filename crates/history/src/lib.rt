@@ -19,7 +19,8 @@ pub struct Rows {
     pub stride: usize,
 }
 
-// One column of work, its channels stride apart, into the history from base on.
+// One column of work, its channels stride apart, into the history from base on. By index, here and below: after `iter_mut` with another adapter a proof
+// knows nothing of the numbers that were written.
 fn store_apart(
     history: &mut [f32],
     work: &[f32],
@@ -105,6 +106,7 @@ fn fetch(work: &mut [f32], memory: &Memory<'_>, to: Rows, ins: usize, back: usiz
 }
 
 // n numbers of work to another place of it. A block's rows lie on either side of that: a split for `copy_from_slice` would take both cases apart.
+// `copy_within` goes number by number too, and was 2 % slower at sixteen columns.
 fn copy(work: &mut [f32], to: usize, from: usize, n: usize)
     requires { (to + n ≤ length work.old) × (from + n ≤ length work.old) × Apart to n from n }
     ensures { work.new ≡ fill to n (λ t. at work.old (from + t)) work.old }

@@ -30,7 +30,7 @@ pub struct Slots {
 }
 
 impl Slots {
-    // The place of slot k.
+    // The place of slot k, by the number that the rules give it.
     pub fn place(&self, k: usize) -> Place
         requires { k < 12 }
         ensures { result ≡ place_in self.now k }

@@ -48,6 +48,7 @@ pub fn stream<R: Read, W: Write>(
     ensures err { OnErr result (HasHeardSome model.entry 0 columns desk.new) }
 {
     let mut left = columns;
+    // the last block may be shorter, so what is left is counted
     while left > 0 {
         let n = next_block(block, left);
         let played = turn(reader, writer, model, desk, scratch, columns - left, n)?;

@@ -16,6 +16,7 @@ pub fn read_full<R: Read>(reader: &mut R, buf: &mut [u8]) -> io::Result<usize>
     ensures err { OnErr result ((bs : List ℕ) × Consumes (R.remaining reader.old) (R.remaining reader.new) bs) }
 {
     let mut done = 0;
+    // a read gives as many bytes as it likes, so there is no step to count by
     while done < buf.len() {
         let n = reader.read(&mut buf[done..])?;
         if n == 0 {

@@ -198,6 +198,7 @@ pub fn run(cut: &[usize], with_plans: bool) -> Option<Play>
     let mut play = Play::from_reset().ok()?;
     let mut column: usize = 0;
     let mut i: usize = 0;
+    // pieces have sizes of their own, so the columns that are left are counted
     while column < COLUMNS {
         let n = cut[i % cut.len()].clamp(1, COLUMNS - column);
         let plan = if with_plans { Plan::of_piece(i) } else { None };

@@ -1,5 +1,5 @@
 // L sums side by side: outputs of one column, or columns of one output. Carries the inner loops of conv.rs. Document 01, 'The recurrence': add product by
-// product.
+// product. The loops go by the number of an input, since the weights of two inputs lie a step apart.
 ghost use Rattle.std.specs.Prelude.{◌≡◌, ℕ, ◌+◌, ◌-◌, ◌*◌, ◌≤◌, ◌<◌, length};
 ghost use Rattle.std.specs.Float.Ieee.{add, mul};
 ghost use Rattle.std.specs.Float.{binary32};

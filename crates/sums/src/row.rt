@@ -1,5 +1,5 @@
 // Sixteen columns of one output side by side, for blocks. Carries the inner loop of conv.rs (`process_block`). Document 01, 'The recurrence': add product
-// by product.
+// by product. The loops go by the number of an input or of sixteen columns: rows and weights lie strides apart, and sums and inputs are of one buffer.
 ghost use Rattle.std.specs.Prelude.{◌≡◌, ◌+◌, ◌*◌, ◌≤◌, length};
 ghost use Rattle.std.specs.Float.Ieee.{add, mul};
 ghost use Rattle.std.specs.Float.{binary32};

@@ -1,4 +1,4 @@
-// The exported functions, for C and Rust: numbers for answers, lent slices, no requires. A slice is a pointer and then a length.
+// The exported functions, for C and Rust. The C interface has numbers for answers and slices one by one, each a pointer and then a length; no requires.
 #![tactic(auto)]
 
 ghost use Rattle.std.specs.Prelude.{◌≡◌, cond, ◌≤◌, eqb};

@@ -26,7 +26,7 @@ pub fn float(bytes: &[u8], at: usize) -> f32
     single::from_bits(word(bytes, at))
 }
 
-// Each place of the slice by a rule for its index.
+// Each place of the slice by a rule for its index. (After `iter_mut().enumerate()` a proof would know nothing of what was written.)
 pub(crate) fn fill_by<T: Copy, F: Fn(usize) -> T>(out: &mut [T], rule: F)
     requires { (i : ℕ) → i < length out.old → F.pre rule i }
     ensures { (d : T) (i : ℕ) → i < length out.old → F.post rule i (get_or out.new i d) }
