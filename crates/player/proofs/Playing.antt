@@ -144,3 +144,13 @@ module _ (b : Lent) (n : ℕ) (e : Left) (answers : Answers b n (block_refusal b
           histories_are = rw (yes, brought_are) at answers.histories;
           positions_are = rw (yes, brought_are) at answers.positions;
         }
+
+-- the same for a description and weights by other names
+module _ {d d' : List ℕ} {w w' : List Float} (description_is : d' ≡ d) (weights_are : w' ≡ w) where
+  pub ready_as : {a : ArrayRecord} {n first : ℕ} {histories : List Float} {positions : List ℕ} {scratch : List Float} {text : List ℕ}
+      → Ready d a n first w histories positions scratch text → Ready d' a n first w' histories positions scratch text
+  ready_as r = rw (description_is, weights_are) r
+
+  pub plays_as : {bytes : List ℕ} {n first : ℕ} {histories : List Float} {positions text : List ℕ} {r : ℕ} {histories' : List Float} {positions' text' : List ℕ}
+      → Plays d' w' bytes n first histories positions text r histories' positions' text' → Plays d w bytes n first histories positions text r histories' positions' text'
+  plays_as p = rw (description_is, weights_are) at p

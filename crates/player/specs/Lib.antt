@@ -1,4 +1,5 @@
 pub mod Fits
 pub mod Lent
+pub mod Incoming
 pub mod Plays
 pub mod Whole

@@ -3,6 +3,7 @@
 // (specs/Plays.antt), and specs/Whole.antt puts all of it together. Document 01, 'The program'.
 #![tactic(auto)]
 
+mod incoming;
 pub mod lent;
 pub mod stream;
 pub mod turn;
@@ -42,7 +43,7 @@ fn with_weights<R: Read, W: Write>(
 {
     let mut histories = [0.0f32; MOST_HELD];
     let mut positions = [0u32; 290];
-    let mut scratch = [0.0f32; 16384];
+    let mut work = [0.0f32; 16384];
     let mut text = [0u8; 29696];
     let description = opening.description;
     let histories = &mut histories[..opening.sizes.histories];
@@ -60,15 +61,7 @@ fn with_weights<R: Read, W: Write>(
     };
     let columns = opening.header.columns as usize;
     let block = opening.header.block;
-    match stream(
-        reader,
-        writer,
-        model,
-        &mut desk,
-        &mut scratch,
-        block,
-        columns,
-    )? {
+    match stream(reader, writer, model, &mut desk, &mut work, block, columns)? {
         Ok(()) => last(writer, Ok(columns)),
         Err(refusal) => last(writer, Err(refusal)),
     }

@@ -1,56 +1,26 @@
 // One turn: the next block's columns are read, played and printed. Document 01, 'The program'.
 ghost use Rattle.std.specs.Prelude.{◌≡◌, ◌+◌, ◌*◌, ◌≤◌, length, IfOk, OnErr};
 ghost use Rattle.wna.specs.File.{width_of};
-ghost use Rattle.wna.specs.Columns.{spread_of};
-ghost use Rattle.player.specs.Fits.{Fits};
 ghost use Rattle.player.specs.Lent.{HasHeard, HasHeardSome, HasPlayed, IsReady, SameDesk};
+ghost use Rattle.player.specs.Incoming.{Laid};
 
+use crate::incoming::Incoming;
 use crate::lent::{Desk, Model};
-use array::{Buffers, Sources};
-use description::records::ArrayRecord;
+use array::Buffers;
 use lines::{Columns, put_lines};
 use reading::read_full;
 use std::io;
 use std::io::{Read, Write};
-use wna::columns::spread;
 use wna::stream::whole_columns;
 
-// The columns' numbers into the planar buffers of input, condition and incoming head.
-fn take_columns(
-    bytes: &[u8],
-    a: ArrayRecord,
-    n: usize,
-    input: &mut [f32],
-    condition: &mut [f32],
-    head_in: &mut [f32],
-)
-    requires fits { Fits a n }
-    requires a_in_bounds { 4 * (n * width_of a) ≤ length bytes.now }
-    requires input_len { (length input.old ≡ a.input * n) × (length condition.old ≡ a.condition * n) × (length head_in.old ≡ a.head_in * n) }
-    ensures input_after { input.new ≡ spread_of bytes.now (width_of a) 0 a.input n }
-    ensures condition_after { condition.new ≡ spread_of bytes.now (width_of a) a.input a.condition n }
-    ensures head_in_after { head_in.new ≡ spread_of bytes.now (width_of a) (a.input + a.condition) a.head_in n }
-{
-    let inputs = a.input;
-    let conditions = a.condition;
-    let heads = a.head_in;
-    let from = inputs + conditions;
-    let width = from + heads;
-    spread(input, bytes, width, 0, inputs, n);
-    spread(condition, bytes, width, inputs, conditions, n);
-    spread(head_in, bytes, width, from, heads, n);
-}
-
 // The columns of the bytes, played and written as text; answers how many bytes that is. The block's own answer is 0: what it is lent fits, and the
-// positions stay in their rings. The planar buffers stay apart: a struct of them, lent beside a desk, tried, and its borrows got no proof.
+// positions stay in their rings.
 fn play_columns(
     model: Model<'_>,
     desk: &mut Desk<'_>,
     scratch: &mut [f32],
     bytes: &[u8],
-    input: &mut [f32],
-    condition: &mut [f32],
-    head_in: &mut [f32],
+    incoming: &mut Incoming<'_>,
     head_out: &mut [f32],
     array_out: &mut [f32],
     first: usize,
@@ -58,24 +28,14 @@ fn play_columns(
 ) -> usize
     requires ready { IsReady model desk.old scratch.old n first }
     requires in_bounds { 4 * (n * width_of model.array) ≤ length bytes.now }
-    requires input_len { (length input.old ≡ model.array.input * n) × (length condition.old ≡ model.array.condition * n) × (length head_in.old ≡ model.array.head_in * n) }
+    requires laid { Laid model.array n incoming.old }
     requires head_out_len { (length head_out.old ≡ model.array.head_size * n) × (length array_out.old ≡ model.array.channels * n) }
     ensures same { SameDesk desk.old desk.new }
     ensures plays { HasPlayed model.entry bytes.now n first desk.old result desk.new }
 {
-    let Model {
-        description,
-        array: a,
-        weights,
-    } = model;
-    take_columns(bytes, a, n, input, condition, head_in);
-    let sources = Sources {
-        description,
-        weights,
-        input,
-        condition,
-        head_in,
-    };
+    let a = model.array;
+    incoming.take(bytes, a, n);
+    let sources = incoming.sources(model);
     let mut buffers = Buffers {
         histories: &mut *desk.histories,
         positions: &mut *desk.positions,
@@ -114,21 +74,19 @@ fn print_columns<W: Write>(
     let mut head_in = [0.0f32; 1024];
     let mut head_out = [0.0f32; 1024];
     let mut array_out = [0.0f32; 1024];
-    let inputs = a.input * n;
-    let conditions = a.condition * n;
-    let heads = a.head_in * n;
-    let outs = a.head_size * n;
-    let arrays = a.channels * n;
+    let mut incoming = Incoming {
+        input: &mut input[..a.input * n],
+        condition: &mut condition[..a.condition * n],
+        head_in: &mut head_in[..a.head_in * n],
+    };
     let size = play_columns(
         model,
         desk,
         scratch,
         bytes,
-        &mut input[..inputs],
-        &mut condition[..conditions],
-        &mut head_in[..heads],
-        &mut head_out[..outs],
-        &mut array_out[..arrays],
+        &mut incoming,
+        &mut head_out[..a.head_size * n],
+        &mut array_out[..a.channels * n],
         first,
         n,
     );

@@ -16,7 +16,7 @@ pub fn read_full<R: Read>(reader: &mut R, buf: &mut [u8]) -> io::Result<usize>
     ensures err { OnErr result ((bs : List ℕ) × Consumes (R.remaining reader.old) (R.remaining reader.new) bs) }
 {
     let mut done = 0;
-    // a read gives as many bytes as it likes, so there is no step to count by
+    // By a `while`: std's `read_exact` says little after a short read, and the steps have no fixed size, so no iterator goes over them.
     while done < buf.len() {
         let n = reader.read(&mut buf[done..])?;
         if n == 0 {
