@@ -13,7 +13,7 @@ use description::records::read_array;
 use stage::span::Span;
 use stage::turn;
 
-// The turns of a plan that keeps its rule; `reached` says how far each stage is.
+// The turns of a plan that keeps its rule; `reached` says how far each stage is: a list of numbers, of which the plan's rule speaks.
 fn turns_in_order(
     sources: &Sources<'_>,
     buffers: &mut Buffers<'_>,

@@ -77,7 +77,7 @@ fn from_reset(
     Ok(())
 }
 
-// The same with room for the histories.
+// The same with room for the histories, which are lent: made where they are used, so large an array takes the check too long.
 pub fn blocks(head_out: &mut [f32]) -> Result<(), Refusal> {
     let mut histories = [1.0f32; 983106];
     let mut positions = [9; 4];
