@@ -26,7 +26,9 @@ pub fn block(
     scratch: &mut [f32],
     n: usize,
 ) -> Result<(), Refusal>
-    ensures answers { Answers (lent sources.now buffers.old scratch.old) n (block_refusal (lent sources.now buffers.old scratch.old) n) (left (number_of result) buffers.new scratch.new) }
+    ensures answers { Answers (lent sources.now buffers.old scratch.old) n
+        (block_refusal (lent sources.now buffers.old scratch.old) n)
+        (left (number_of result) buffers.new scratch.new) }
     ensures same { SameBuffers buffers.old buffers.new }
 {
     let sizes = admit::call(sources, buffers, scratch, n)?;
@@ -45,7 +47,9 @@ pub fn column(
     buffers: &mut Buffers<'_>,
     scratch: &mut [f32],
 ) -> Result<(), Refusal>
-    ensures answers { Answers (lent sources.now buffers.old scratch.old) 1 (column_refusal (lent sources.now buffers.old scratch.old)) (left (number_of result) buffers.new scratch.new) }
+    ensures answers { Answers (lent sources.now buffers.old scratch.old) 1
+        (column_refusal (lent sources.now buffers.old scratch.old))
+        (left (number_of result) buffers.new scratch.new) }
     ensures same { SameBuffers buffers.old buffers.new }
 {
     block(sources, buffers, scratch, 1)
@@ -59,7 +63,9 @@ pub fn planned(
     n: usize,
     plan: &[u32],
 ) -> Result<(), Refusal>
-    ensures answers { Answers (lent sources.now buffers.old scratch.old) n (planned_refusal (lent sources.now buffers.old scratch.old) n plan.now) (left (number_of result) buffers.new scratch.new) }
+    ensures answers { Answers (lent sources.now buffers.old scratch.old) n
+        (planned_refusal (lent sources.now buffers.old scratch.old) n plan.now)
+        (left (number_of result) buffers.new scratch.new) }
     ensures same { SameBuffers buffers.old buffers.new }
 {
     let sizes = admit::call(sources, buffers, scratch, n)?;
