@@ -9,7 +9,8 @@ use array::Sources;
 use description::records::ArrayRecord;
 use wna::columns::spread;
 
-// What comes with a block's columns.
+// What comes with a block's columns. What is played goes into buffers that stand apart: a call changes them while its sources are lent, and for one struct
+// lent in both ways the borrows got no proof.
 #[derive(Drop)]
 pub struct Incoming<'a> {
     pub input: &'a mut [f32],

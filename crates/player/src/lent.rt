@@ -9,7 +9,8 @@ pub struct Model<'a> {
     pub weights: &'a [f32],
 }
 
-// What changes as it is played: what the stages remember, and the room for a block's text. Scratch stands apart, as it does in a call.
+// What changes as it is played: what the stages remember, and the room for a block's text. Scratch stands apart, as it does in a call: with three of its
+// slices lent to one call the struct's borrows got no proof.
 #[derive(Drop)]
 pub struct Desk<'a> {
     pub histories: &'a mut [f32],
