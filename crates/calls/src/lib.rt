@@ -19,7 +19,7 @@ use array::{Buffers, Sources};
 use description::records::read_array;
 use refusal::Refusal;
 
-// A block of n columns: 0, or the refusal 1 to 8. Scratch is cut to its sixteen regions, so that a longer one is no different.
+// A block of n columns, or the refusal 1 to 8. Scratch is cut to its sixteen regions, so that a longer one is no different.
 pub fn block(
     sources: &Sources<'_>,
     buffers: &mut Buffers<'_>,
@@ -41,7 +41,7 @@ pub fn block(
     Ok(())
 }
 
-// A single column: 0, or the refusal 1 to 5, 7 or 8. It is a block of one, for which 6 is never given.
+// A single column, or the refusal 1 to 5, 7 or 8. It is a block of one, for which 6 is never given.
 pub fn column(
     sources: &Sources<'_>,
     buffers: &mut Buffers<'_>,
@@ -55,7 +55,7 @@ pub fn column(
     block(sources, buffers, scratch, 1)
 }
 
-// A planned block of n columns: 0, or the refusal 1 to 9.
+// A planned block of n columns, or the refusal 1 to 9.
 pub fn planned(
     sources: &Sources<'_>,
     buffers: &mut Buffers<'_>,

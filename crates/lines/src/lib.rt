@@ -80,6 +80,7 @@ impl Page<'_> {
         ensures same_reference { self.new.bytes.ghost_name ≡ self.old.bytes.ghost_name }
         ensures wrote { Wrote self.old (values_text (column_of n t w planar.now)) self.new }
     {
+        // by the number of a row, since a column's numbers lie n apart
         for c in 0..w {
             self.put_number(planar[c * n + t]);
         }

@@ -32,7 +32,7 @@ struct Opening<'a> {
     ghost opened: { Opened description.now sizes header.block },
 }
 
-// From a reset: all columns, and the last line. The reset's own answer is 0: the buffers have the description's sizes.
+// From a reset: all columns, and the last line. The reset is not refused: the buffers have the description's sizes.
 fn with_weights<R: Read, W: Write>(
     reader: &mut R,
     writer: &mut W,

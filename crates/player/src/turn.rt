@@ -13,7 +13,7 @@ use std::io;
 use std::io::{Read, Write};
 use wna::stream::whole_columns;
 
-// The columns of the bytes, played and written as text; answers how many bytes that is. The block's own answer is 0: what it is lent fits, and the
+// The columns of the bytes, played and written as text; answers how many bytes that is. The block is not refused: what it is lent fits, and the
 // positions stay in their rings.
 fn play_columns(
     model: Model<'_>,

@@ -29,6 +29,14 @@ struct Piece {
     array_out: [f32; 128],
 }
 
+// How a piece is played: by a single column, by a block of so many columns as it names, or by a block in the turns of a plan.
+#[derive(Clone, Copy)]
+enum Call<'a> {
+    Column,
+    Block(usize),
+    Planned(&'a [u32]),
+}
+
 impl Piece {
     // The n columns from `column` on.
     fn of_signal(column: usize, n: usize) -> Piece
@@ -65,13 +73,14 @@ impl Play {
         Ok(play)
     }
 
-    // The piece by a call that names so many columns.
-    fn block(&mut self, piece: &mut Piece, named: usize) -> Result<(), Refusal>
+    // The piece by one call.
+    fn call(&mut self, piece: &mut Piece, call: Call<'_>) -> Result<(), Refusal>
         requires { piece.old.n ≤ 64 }
         ensures { piece.new.n ≡ piece.old.n }
     {
         let mut scratch = [0.0; 4096];
-        let len = 2 * piece.n;
+        let n = piece.n;
+        let len = 2 * n;
         let head_out = &mut piece.head_out[..];
         let array_out = &mut piece.array_out[..];
         let sources = Sources {
@@ -87,55 +96,11 @@ impl Play {
             head_out: &mut head_out[..len],
             array_out: &mut array_out[..len],
         };
-        calls::block(&sources, &mut buffers, &mut scratch, named)
-    }
-
-    fn column(&mut self, piece: &mut Piece) -> Result<(), Refusal>
-        requires { piece.old.n ≤ 64 }
-        ensures { piece.new.n ≡ piece.old.n }
-    {
-        let mut scratch = [0.0; 4096];
-        let len = 2 * piece.n;
-        let head_out = &mut piece.head_out[..];
-        let array_out = &mut piece.array_out[..];
-        let sources = Sources {
-            description: &self.description,
-            weights: &self.weights,
-            input: &piece.input[..len],
-            condition: &piece.condition[..len],
-            head_in: &piece.head_in[..len],
-        };
-        let mut buffers = Buffers {
-            histories: &mut self.histories,
-            positions: &mut self.positions,
-            head_out: &mut head_out[..len],
-            array_out: &mut array_out[..len],
-        };
-        calls::column(&sources, &mut buffers, &mut scratch)
-    }
-
-    fn planned(&mut self, piece: &mut Piece, plan: &[u32]) -> Result<(), Refusal>
-        requires { piece.old.n ≤ 64 }
-        ensures { piece.new.n ≡ piece.old.n }
-    {
-        let mut scratch = [0.0; 4096];
-        let len = 2 * piece.n;
-        let head_out = &mut piece.head_out[..];
-        let array_out = &mut piece.array_out[..];
-        let sources = Sources {
-            description: &self.description,
-            weights: &self.weights,
-            input: &piece.input[..len],
-            condition: &piece.condition[..len],
-            head_in: &piece.head_in[..len],
-        };
-        let mut buffers = Buffers {
-            histories: &mut self.histories,
-            positions: &mut self.positions,
-            head_out: &mut head_out[..len],
-            array_out: &mut array_out[..len],
-        };
-        calls::planned(&sources, &mut buffers, &mut scratch, piece.n, plan)
+        match call {
+            Call::Column => calls::column(&sources, &mut buffers, &mut scratch),
+            Call::Block(named) => calls::block(&sources, &mut buffers, &mut scratch, named),
+            Call::Planned(plan) => calls::planned(&sources, &mut buffers, &mut scratch, n, plan),
+        }
     }
 
     // A block of one column more than is lent, which is refused, and the block; whether both were answered so.
@@ -144,13 +109,13 @@ impl Play {
         ensures { piece.new.n ≡ piece.old.n }
     {
         let n = piece.n;
-        if self.block(piece, n + 1) != Err(Refusal::BufferLength) {
+        if self.call(piece, Call::Block(n + 1)) != Err(Refusal::BufferLength) {
             return false;
         }
         if n == 1 {
-            return self.column(piece).is_ok();
+            return self.call(piece, Call::Column).is_ok();
         }
-        self.block(piece, n).is_ok()
+        self.call(piece, Call::Block(n)).is_ok()
     }
 
     // A call with the description for a plan, which is refused, and the call with its plan.
@@ -161,10 +126,10 @@ impl Play {
         let mut turns = [0; 512];
         let len = 2 * plan.turns(piece.n);
         plan.write(&mut turns[..len], piece.n);
-        if self.planned(piece, &two_layers()) != Err(Refusal::Plan) {
+        if self.call(piece, Call::Planned(&two_layers())) != Err(Refusal::Plan) {
             return false;
         }
-        self.planned(piece, &turns[..len]).is_ok()
+        self.call(piece, Call::Planned(&turns[..len])).is_ok()
     }
 
     // The n columns from `column` on; whether each call was answered as it has to be.
