@@ -77,7 +77,7 @@ fn past_site(a: ArrayRecord, r: LayerRecord, start: Place, at: Place, i: usize) 
     at.past(slot(a, r, 4 + i))
 }
 
-// The places of a layer whose numbers start at `start`. A layer's turn is the one caller, and holds what this makes: a call would copy it twice.
+// The places of a layer whose numbers start at `start`. A layer's turn holds what this makes, and a call would copy it twice: so it stands inline there.
 #[inline(always)]
 pub fn slots_from(a: ArrayRecord, r: LayerRecord, start: Place) -> Slots
     requires array_ranges { ArrayRanges a }
