@@ -8,12 +8,14 @@ ghost use Rattle.std.specs.Float.{binary32};
 ghost use Rattle.lists.specs.Tab.{at, fill, rows};
 ghost use Rattle.lists.specs.Region.{Apart};
 
-// to[t] = from[t], from one buffer to another.
+// to[t] = from[t], from one buffer to another. Number by number: `copy_from_slice` is a call of C's `memmove`, which the library does not ask of its users.
 fn row(dst: &mut [f32], src: &[f32], to: usize, from: usize, m: usize)
     requires { (to + m ≤ length dst.old) × (from + m ≤ length src.now) }
     ensures { dst.new ≡ fill to m (λ t. at src.now (from + t)) dst.old }
 {
-    dst[to..to + m].copy_from_slice(&src[from..from + m]);
+    for t in 0..m {
+        dst[to + t] = src[from + t];
+    }
 }
 
 // One column of w rows, from one buffer to another: a loop of its own, as a loop within a loop costs more than the one number that it would carry.
