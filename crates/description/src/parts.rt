@@ -1,7 +1,7 @@
 // The parts that records ask for: the shapes of their convolutions. Carries the fields of layer.rs and array.rs, with an absent `Option` as `None`.
 // Document 01, 'Description' (mid, FiLM sites and widths, order of convolutions).
 ghost use Rattle.std.specs.Prelude.{◌≡◌, ◌<◌, Some};
-ghost use Rattle.description.specs.Parts.{conv_of, head1x1_of, head_rechannel_of, layer1x1_of, mid, mixin_of, part_of, rechannel_of, site_of, site_width, uneven_of};
+ghost use Rattle.description.specs.Parts.{conv_of, head1x1_of, head_rechannel_of, layer1x1_of, mid, mixin_of, part_of, rechannel_of, site_groups, site_of, site_width, uneven_of};
 ghost use Rattle.shape.specs.Counts.{InRange};
 ghost use Rattle.description.specs.Ranges.{ArrayRanges, Fits, LayerRanges};
 
@@ -141,6 +141,24 @@ fn site_width(a: ArrayRecord, r: LayerRecord, i: usize) -> usize
     }
 }
 
+// The groups of site i. Each is read at a place that stands in the code, so that a loop over the slots keeps a record's numbers in registers: read at the
+// place `i`, the whole record was laid in memory again for each site, and the check of a description took three instructions in ten more.
+fn site_groups(sites: [usize; 8], i: usize) -> usize
+    requires { i < 8 }
+    ensures { result ≡ site_groups sites i }
+{
+    match i {
+        0 => sites[0],
+        1 => sites[1],
+        2 => sites[2],
+        3 => sites[3],
+        4 => sites[4],
+        5 => sites[5],
+        6 => sites[6],
+        _ => sites[7],
+    }
+}
+
 // The FiLM of site i: scales, and as many shifts where its bit is set.
 fn site(a: ArrayRecord, r: LayerRecord, i: usize) -> Part
     requires array_ranges { ArrayRanges a }
@@ -148,7 +166,7 @@ fn site(a: ArrayRecord, r: LayerRecord, i: usize) -> Part
     requires i_bound { i < 8 }
     ensures { result ≡ site_of a r i }
 {
-    let groups = r.sites[i];
+    let groups = site_groups(r.sites, i);
     if groups == 0 {
         return None;
     }

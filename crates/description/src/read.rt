@@ -19,10 +19,7 @@ pub fn read_layer(description: &[u32], l: usize) -> Result<LayerRecord, Refusal>
     ensures { LayerAnswers description.now l result }
 {
     let at = HEAD_LENGTH + RECORD_LENGTH * l;
-    if breaks_range(&LAYER_LIMITS, description, at) {
-        return Err(Refusal::Range);
-    }
-    if breaks_zero_rule(description, at) {
+    if breaks_range(&LAYER_LIMITS, description, at) || breaks_zero_rule(description, at) {
         return Err(Refusal::Range);
     }
     Ok(layer_record(description, l))

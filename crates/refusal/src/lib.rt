@@ -42,12 +42,12 @@ impl From<Refusal> for u32 {
     }
 }
 
-// What C is told: 0, or the number of the refusal.
-pub fn answer(outcome: Result<(), Refusal>) -> u32
+// What C is told, whatever else the answer holds: 0, or the number of the refusal.
+pub fn answer<T: Copy>(outcome: Result<T, Refusal>) -> u32
     ensures { result ≡ number_of outcome }
 {
     match outcome {
-        Ok(()) => 0,
+        Ok(_) => 0,
         Err(refusal) => u32::from(refusal),
     }
 }

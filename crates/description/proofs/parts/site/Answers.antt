@@ -1,15 +1,15 @@
 -- `site` is absent exactly where its groups are 0; scales and shifts are 1 or 2 times its width (Slots).
-use mathlib.Core.Path.{refl}
+use mathlib.Core.Path.{sym, ◌∙◌}
 use Prim.Native.Nat.{◌^◌, ◌/◌}
 use native.Mathlib.Omega.{arith}
 use borrow.Author.Tests.{eq-eqb}
-use Rattle.description.specs.Parts.{site_groups, site_of, unless0}
+use Rattle.description.specs.Parts.{site_of, unless0}
 use Rattle.description.proofs.Slots.{doubled_le, site_there, site_width_range}
 use Rattle.description.proofs.parts.site.Goals as goal
 
 pub returns-then-groups-eq0 : goal.returns-then-groups-eq0
 unfolding site_of unless0
-returns-then-groups-eq0 c = rw (eq-eqb (site_groups c.args.r.sites c.args.i) 0 c.if-groups-eq0.true)
+returns-then-groups-eq0 c = rw (eq-eqb _ _ (sym c.site_groups-groups.ensures ∙ c.if-groups-eq0.true))
 
 pub overflow_mul-outs : goal.overflow_mul-outs
 overflow_mul-outs c =
@@ -20,4 +20,5 @@ overflow_mul-outs c =
 pub returns : goal.returns
 returns c =
     let args = c.args in
-    site_there args.a args.r args.i (site_groups args.r.sites args.i) c.site_width.result refl c.if-groups-eq0.false c.site_width.ensures
+    let site_groups_in = c.site_groups-groups in
+    site_there args.a args.r args.i site_groups_in.result c.site_width.result site_groups_in.ensures c.if-groups-eq0.false c.site_width.ensures
