@@ -1,10 +1,10 @@
 // The lengths of the buffers that a call is lent, against what the description asks for n columns. Document 01, 'Refusal numbers' 6 and 7.
 ghost use Rattle.std.specs.Prelude.{◌≡◌, ◌≤◌};
 ghost use Rattle.description.specs.Ranges.{ArrayRanges};
-ghost use Rattle.array.specs.Buffers.{lent};
+ghost use Rattle.array.specs.Buffers.{lent_shared};
 ghost use Rattle.admit.specs.Lengths.{differing};
 
-use array::{Buffers, Sources};
+use array::{Shared, Sources};
 use description::answers::Sizes;
 use description::records::ArrayRecord;
 
@@ -17,7 +17,7 @@ pub const REGIONS: usize = 16;
 // Whether a length differs from its size or from width x n, or scratch is too short. One expression without a branch, since all pass but for a mistake.
 pub fn differ(
     sources: &Sources<'_>,
-    buffers: &Buffers<'_>,
+    buffers: &Shared<'_>,
     scratch: &[f32],
     a: ArrayRecord,
     s: Sizes,
@@ -26,7 +26,7 @@ pub fn differ(
     requires array_ranges { ArrayRanges a }
     requires widest_bound { s.widest ≤ 64 }
     requires n_bound { n ≤ 1024 }
-    ensures { result ≡ differing (lent sources.now buffers.now scratch.now) a s n }
+    ensures { result ≡ differing (lent_shared sources.now buffers.now scratch.now) a s n }
 {
     (sources.weights.len() != s.weights)
         | (buffers.histories.len() != s.histories)

@@ -6,10 +6,10 @@ pub mod lengths;
 pub mod places;
 pub mod plan;
 
-ghost use Rattle.array.specs.Buffers.{lent};
+ghost use Rattle.array.specs.Buffers.{lent_shared};
 ghost use Rattle.admit.specs.Admits.{Admits};
 
-use array::{Buffers, Sources};
+use array::{Shared, Sources};
 use description::answers::Sizes;
 use description::check::check;
 use description::records::read_array;
@@ -20,11 +20,11 @@ use refusal::Refusal;
 // A block of n columns: 1 to 8. A single column is a block of one, for 1 is no more than 1024. No width is multiplied by n before 6 is tested.
 pub fn call(
     sources: &Sources<'_>,
-    buffers: &Buffers<'_>,
+    buffers: &Shared<'_>,
     scratch: &[f32],
     n: usize,
 ) -> Result<Sizes, Refusal>
-    ensures { Admits (lent sources.now buffers.now scratch.now) n result }
+    ensures { Admits (lent_shared sources.now buffers.now scratch.now) n result }
 {
     let sizes = check(sources.description)?;
     if MOST_COLUMNS < n {

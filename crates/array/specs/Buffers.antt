@@ -2,12 +2,28 @@
 use Rattle.std.specs.Prelude.{◌≡◌, List, ℕ, length, Float}
 use Rattle.array.specs.declared.Sources.{Sources}
 use Rattle.array.specs.declared.Buffers.{Buffers}
+use Rattle.array.specs.declared.Shared.{Shared}
 use Rattle.array.specs.Lent.{Given, Left, Lent}
 use Rattle.array.specs.Turn.{Changing}
 
 -- all that is lent, as a call finds it
 abbrev pub lent : Sources → Buffers → List Float → Lent
 lent s b scratch = record {
+  description = s.description.now;
+  weights = s.weights.now;
+  histories = b.histories.now;
+  positions = b.positions.now;
+  input = s.input.now;
+  condition = s.condition.now;
+  head_in = s.head_in.now;
+  head_out = b.head_out.now;
+  array_out = b.array_out.now;
+  scratch = scratch;
+}
+
+-- the same, as a check finds it
+abbrev pub lent_shared : Sources → Shared → List Float → Lent
+lent_shared s b scratch = record {
   description = s.description.now;
   weights = s.weights.now;
   histories = b.histories.now;

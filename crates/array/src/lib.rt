@@ -3,6 +3,8 @@
 // check of a call) and `calls` (column, block, planned block). Document 01, 'The recurrence' (Array), 'Plans', 'Refusal numbers' 6 to 9.
 #![tactic(auto)]
 
+ghost use Rattle.std.specs.Prelude.{◌≡◌};
+
 // What a call only reads.
 #[derive(Clone, Copy)]
 pub struct Sources<'a> {
@@ -20,4 +22,30 @@ pub struct Buffers<'a> {
     pub positions: &'a mut [u32],
     pub head_out: &'a mut [f32],
     pub array_out: &'a mut [f32],
+}
+
+// What a call changes, as its check reads it: it may be lent to others too, for which `Buffers` would have to be held alone.
+#[derive(Clone, Copy)]
+pub struct Shared<'a> {
+    pub histories: &'a [f32],
+    pub positions: &'a [u32],
+    pub head_out: &'a [f32],
+    pub array_out: &'a [f32],
+}
+
+impl Buffers<'_> {
+    // Lent to be read.
+    pub fn shared(&self) -> Shared<'_>
+        ensures histories { result.histories.now ≡ self.now.histories.now }
+        ensures positions { result.positions.now ≡ self.now.positions.now }
+        ensures head_out { result.head_out.now ≡ self.now.head_out.now }
+        ensures array_out { result.array_out.now ≡ self.now.array_out.now }
+    {
+        Shared {
+            histories: self.histories,
+            positions: self.positions,
+            head_out: self.head_out,
+            array_out: self.array_out,
+        }
+    }
 }

@@ -31,7 +31,8 @@ pub fn block(
         (left (number_of result) buffers.new scratch.new) }
     ensures same { SameBuffers buffers.old buffers.new }
 {
-    let sizes = admit::call(sources, buffers, scratch, n)?;
+    let shared = buffers.shared();
+    let sizes = admit::call(sources, &shared, scratch, n)?;
     if n == 0 {
         return Ok(());
     }
@@ -68,7 +69,8 @@ pub fn planned(
         (left (number_of result) buffers.new scratch.new) }
     ensures same { SameBuffers buffers.old buffers.new }
 {
-    let sizes = admit::call(sources, buffers, scratch, n)?;
+    let shared = buffers.shared();
+    let sizes = admit::call(sources, &shared, scratch, n)?;
     let a = read_array(sources.description);
     if !keeps_rule(plan, a.layers + 2, n) {
         return Err(Refusal::Plan);

@@ -14,7 +14,7 @@ use stage::span::Span;
 use stage::turn;
 
 // The turns of a plan that keeps its rule; `reached` says how far each stage is: a list of numbers, of which the plan's rule speaks.
-fn turns_in_order(
+pub fn turns_in_order(
     sources: &Sources<'_>,
     buffers: &mut Buffers<'_>,
     scratch: &mut [f32],

@@ -5,13 +5,12 @@ ghost use Rattle.std.specs.Float.Ieee.{of_bits};
 ghost use Rattle.std.specs.Float.{binary32};
 ghost use Rattle.lists.specs.Tab.{at, tab};
 ghost use Rattle.ring.specs.Memory.{past};
-ghost use Rattle.ring.specs.Held.{held};
 ghost use Rattle.shape.specs.Counts.{ring_length};
 ghost use Rattle.column.specs.Recurrence.{taps_from};
-ghost use Rattle.column.specs.Fits.{FilterFits, GroupFits};
+ghost use Rattle.column.specs.Fits.{GroupFits, PartsFit};
 
 use crate::Filter;
-use ring::Memory;
+use ring::Ring;
 
 // What the sums of L outputs start at, whose biases are the weights from `from` on.
 pub fn start<const L: usize>(filter: &Filter<'_>, from: usize) -> [f32; L]
@@ -25,17 +24,19 @@ pub fn start<const L: usize>(filter: &Filter<'_>, from: usize) -> [f32; L]
     }
 }
 
-// All taps of the L outputs from o on, which are of group g, onto their sums. Read out of the history, where the column was pushed.
+// All taps of the L outputs from o on, which are of group g, onto their sums. Read out of the history, where the column was pushed; it may be lent to
+// others too.
 pub fn taps<const L: usize>(
     sums: [f32; L],
-    memory: &Memory<'_>,
+    history: &[f32],
+    ring: Ring,
     filter: &Filter<'_>,
     g: usize,
     o: usize,
 ) -> [f32; L]
-    requires { FilterFits filter.now memory.now × GroupFits filter.now.shape g o L × (0 < L) }
+    requires { PartsFit filter.now.shape ring.at ring.len (length history.now) (length filter.now.weights.now) × GroupFits filter.now.shape g o L × (0 < L) }
     ensures { result ≡ tab L (λ i. taps_from filter.now.shape filter.now.weights.now
-        (past filter.now.shape.ins (ring_length filter.now.shape) (held memory.now)) (o + i) filter.now.shape.kernel (at sums.entry i)) }
+        (past filter.now.shape.ins (ring_length filter.now.shape) (record { history = history.now; place = ring.at })) (o + i) filter.now.shape.kernel (at sums.entry i)) }
 {
     let ins = filter.shape.ins;
     let kernel = filter.shape.kernel;
@@ -46,10 +47,10 @@ pub fn taps<const L: usize>(
     let mut r = sums;
     for k in 0..kernel {
         let back = filter.steps_back(k);
-        let column = memory.ring.back(back);
+        let column = ring.back(back);
         let more = sums::lanes::add_outputs(
             r,
-            memory.history,
+            history,
             filter.weights,
             column * ins + base,
             w + k,

@@ -3,7 +3,7 @@
 // input 0 upward.
 #![tactic(auto)]
 
-ghost use Rattle.std.specs.Prelude.{◌≡◌, true, cond, ℕ, ◌+◌, ◌*◌, ◌≤◌, ◌<◌, length};
+ghost use Rattle.std.specs.Prelude.{◌≡◌, true, cond, ◌⊎◌, ℕ, ◌+◌, ◌*◌, ◌≤◌, ◌<◌, length};
 ghost use Rattle.std.specs.Float.Ieee.{of_bits};
 ghost use Rattle.std.specs.Float.{binary32};
 ghost use Rattle.lists.specs.Tab.{at, rows};
@@ -63,7 +63,7 @@ fn some_outputs<const L: usize>(
         (λ i t. output filter.now.shape filter.now.weights.now (held memory.now) (o + i)) work.old }
 {
     let begun = start::<L>(filter, filter.shape.kernel_count() + o);
-    let sums = taps(begun, memory, filter, g, o);
+    let sums = taps(begun, memory.history, memory.ring, filter, g, o);
     sums::lanes::put(work, out.first + o * out.stride, out.stride, sums);
 }
 
@@ -80,6 +80,7 @@ fn next_outputs(
     requires { FilterFits filter.now memory.now × GroupFits filter.now.shape g o left × (0 < left)
         × ((o : ℕ) → o < filter.now.shape.outs → out.first + o * out.stride < length work.old) }
     ensures taken { (0 < result) × (result ≤ left) }
+    ensures of_a_kind { (result ≡ 1) ⊎ ((result ≡ 4) ⊎ (result ≡ 8)) }
     ensures done { work.new ≡ rows (out.first + o * out.stride) out.stride 1 result
         (λ i t. output filter.now.shape filter.now.weights.now (held memory.now) (o + i)) work.old }
 {

@@ -126,7 +126,7 @@ fn read_tap(
     } else {
         let ins = filter.shape.ins;
         let first = block.rows;
-        history::gather(work, memory, first, x, ins, back, n);
+        history::gather(work, memory.history, memory.ring, first, x, ins, back, n);
         tap(work, filter, out, Rows { first, stride: n }, n, k);
     }
 }

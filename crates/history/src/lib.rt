@@ -87,21 +87,21 @@ fn fetch_column(work: &mut [f32], history: &[f32], to: Rows, base: usize, ins: u
 }
 
 // The n columns of the history from the one `back` columns before the next on.
-fn fetch(work: &mut [f32], memory: &Memory<'_>, to: Rows, ins: usize, back: usize, n: usize)
-    requires { FetchFits memory.now.ring.at memory.now.ring.len (length memory.now.history.now) (length work.old) ins to.first to.stride back n }
-    ensures { work.new ≡ rows to.first to.stride n ins (λ j t. past ins memory.now.ring.len (held memory.now) j (back - t - 1)) work.old }
+fn fetch(work: &mut [f32], history: &[f32], ring: Ring, to: Rows, ins: usize, back: usize, n: usize)
+    requires { FetchFits ring.at ring.len (length history.now) (length work.old) ins to.first to.stride back n }
+    ensures { work.new ≡ rows to.first to.stride n ins (λ j t. past ins ring.len (record { history = history.now; place = ring.at }) j (back - t - 1)) work.old }
 {
-    let len = memory.ring.len;
+    let len = ring.len;
     let stride = to.stride;
     let mut place = Ring {
-        at: memory.ring.back(back),
+        at: ring.back(back),
         len,
     };
     for t in 0..n {
         place = place.next();
         let first = to.first + t;
         let base = place.at * ins;
-        fetch_column(work, memory.history, Rows { first, stride }, base, ins);
+        fetch_column(work, history, Rows { first, stride }, base, ins);
     }
 }
 
@@ -132,25 +132,27 @@ fn copy_rows(work: &mut [f32], to: Rows, from: Rows, w: usize, n: usize)
 }
 
 // What stands `back` columns back from each of the n columns of a block: those before the block out of the history, the rest out of the block. The
-// gathered rows stand next to each other from `to` on.
+// gathered rows stand next to each other from `to` on. The history is only read, so it may be lent to others too: a `Memory` could not be.
 pub fn gather(
     work: &mut [f32],
-    memory: &Memory<'_>,
+    history: &[f32],
+    ring: Ring,
     to: usize,
     block: Rows,
     ins: usize,
     back: usize,
     n: usize,
 )
-    requires { GatherFits memory.now.ring.at memory.now.ring.len (length memory.now.history.now) (length work.old) ins to block.first block.stride back n }
+    requires { GatherFits ring.at ring.len (length history.now) (length work.old) ins to block.first block.stride back n }
     ensures { work.new ≡ rows to n n ins
-        (λ c t. seen (λ i. at work.old (block.first + c * block.stride + i)) (past ins memory.now.ring.len (held memory.now) c) back t) work.old }
+        (λ c t. seen (λ i. at work.old (block.first + c * block.stride + i)) (past ins ring.len (record { history = history.now; place = ring.at }) c) back t) work.old }
 {
     let before = back.min(n);
     let first = to + before;
     fetch(
         work,
-        memory,
+        history,
+        ring,
         Rows {
             first: to,
             stride: n,

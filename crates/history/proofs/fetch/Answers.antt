@@ -13,19 +13,19 @@ use Rattle.history.proofs.fetch.Goals as goal
 
 pub loop-t-init : goal.loop-t-init
 loop-t-init c =
-    let ring = c.args.memory.now.ring in
+    let ring = c.args.ring in
     let none : c.args.back ≡ c.args.back - 0 = omega arith in
     (search rules, search rules, search rules, c.back.ensures ∙ ap (λ (k : ℕ). place_back ring.len ring.at k) none, rows_narrow _ _ _ _ _)
 
 pub next-place-requires : goal.next-place-requires
 next-place-requires c =
-    let ring = c.args.memory.now.ring in
+    let ring = c.args.ring in
     let f = c.requires in
     rw (c.loop-t.invariant.2, c.loop-t.invariant.3) (back_lt ring.len ring.at (c.args.back - c.loop-t.t) f.place_in (omega (arith, f.back_in)))
 
 pub overflow_mul-base : goal.overflow_mul-base
 overflow_mul-base c =
-    let ring = c.args.memory.now.ring in
+    let ring = c.args.ring in
     let f = c.requires in
     let l = c.loop-t in
     let to : c.next-place.result.at ≡ next_place ring.len l.place.at = rw (ap (λ (r : Ring). r.at) c.next-place.ensures, l.invariant.2) in
@@ -35,7 +35,7 @@ overflow_mul-base c =
 
 pub fetch_column-requires : goal.fetch_column-requires
 fetch_column-requires c =
-    let ring = c.args.memory.now.ring in
+    let ring = c.args.ring in
     let f = c.requires in
     let l = c.loop-t in
     let to : c.next-place.result.at ≡ next_place ring.len l.place.at = rw (ap (λ (r : Ring). r.at) c.next-place.ensures, l.invariant.2) in
@@ -47,7 +47,7 @@ fetch_column-requires c =
 
 pub loop-t-preserved : goal.loop-t-preserved
 loop-t-preserved c =
-    let ring = c.args.memory.now.ring in
+    let ring = c.args.ring in
     let f = c.requires in
     let l = c.loop-t in
     let to : c.next-place.result.at ≡ next_place ring.len l.place.at = rw (ap (λ (r : Ring). r.at) c.next-place.ensures, l.invariant.2) in

@@ -102,5 +102,5 @@ loop-k-preserved g c =
       is_tab nan _ g.row.L _ long (λ i hi.
           taps_more _ _ _ _ _ _ (at loop.r i) _ (rw loop.invariant.3 (at-tab nan g.row.L _ i hi))
           (rw (c.add_outputs-more.ensures, at-tab nan g.row.L _ i hi)
-          (lane_is f h e args.memory.now.history.now args.filter.now.weights.now loop.k back.result i (at loop.r i) column hi))),
+          (lane_is f h e args.history.now args.filter.now.weights.now loop.k back.result i (at loop.r i) column hi))),
     )
