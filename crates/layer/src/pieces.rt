@@ -10,7 +10,7 @@ use description::parts::doubled;
 use slot::Bench;
 
 impl Layer<'_> {
-    // Conv input = site 0 or the input; conv; site 1.
+    // Conv input = site 0 (conv_pre) or the input; conv; site 1 (conv_post).
     pub fn front(&self, bench: &mut Bench<'_>)
         requires { Ready self.now bench.old }
         ensures same { SameBench bench.old bench.new }
@@ -24,7 +24,7 @@ impl Layer<'_> {
         self.modulate(bench, 1, to, to, doubled(*self.own));
     }
 
-    // Mixin input = site 2 of the condition or the condition; mixin; site 3.
+    // Mixin input = site 2 (input_mixin_pre) of the condition or the condition; mixin; site 3 (input_mixin_post).
     pub fn mixer(&self, bench: &mut Bench<'_>)
         requires { Ready self.now bench.old }
         ensures same { SameBench bench.old bench.new }
@@ -38,7 +38,7 @@ impl Layer<'_> {
         self.modulate(bench, 3, to, to, doubled(*self.own));
     }
 
-    // z = conv + mixin; site 4; gating; site 5.
+    // z = conv + mixin; site 4 (activation_pre); gating; site 5 (activation_post).
     pub fn gate(&self, bench: &mut Bench<'_>)
         requires { Ready self.now bench.old }
         ensures same { SameBench bench.old bench.new }
@@ -63,7 +63,7 @@ impl Layer<'_> {
         self.modulate(bench, 5, to, to, width);
     }
 
-    // Head1x1 then site 7, or the gated values; add to the head accumulator, accumulator first.
+    // Head1x1 then site 7 (head1x1_post), or the gated values; add to the head accumulator, accumulator first.
     pub fn head(&self, bench: &mut Bench<'_>)
         requires { Ready self.now bench.old }
         ensures same { SameBench bench.old bench.new }
@@ -87,7 +87,7 @@ impl Layer<'_> {
         carry::add_to(bench.work, accumulator, to, width * self.columns);
     }
 
-    // Layer1x1, site 6 only in Blended, then result + layer input; without layer1x1 the layer input. It answers where the result is.
+    // Layer1x1, site 6 (layer1x1_post) only in Blended, then result + layer input; without layer1x1 the layer input. It answers where the result is.
     pub fn residual(&self, bench: &mut Bench<'_>) -> usize
         requires { Ready self.now bench.old }
         ensures same { SameBench bench.old bench.new }
