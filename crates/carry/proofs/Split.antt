@@ -58,3 +58,14 @@ back_filled to s m from n w front back old new e l h q is =
     (sym (rows_back front back to s m w _ l)
     ∙ rows_ext to s m w _ _ (front ++ back)
     (λ c t hc ht. sym (get_or-append front back nan (from + c * n + t) (omega (arith, l, h, q, ht, row_end c w n hc)))))
+
+-- the same where equations tell the two places, and how far apart the source's rows are: an `if` in the code may pick them
+pub front_told : (to from n p q k s m w : ℕ) (front back old new : List Float) → old ≡ front ++ back → length front ≡ q → p + m + w * s ≤ q + s → m ≤ s
+    → new ≡ rows p s m w (λ c t. at back (0 + c * k + t)) front → p ≡ to → q ≡ from → k ≡ n
+    → new ++ back ≡ rows to s m w (λ c t. at old (from + c * n + t)) old
+front_told to from n p q k s m w front back old new e l h le is a b d = rw (a, b, d) at (front_filled p s m q k w front back old new e l h le is)
+
+pub back_told : (to from n p q k s m w : ℕ) (front back old new : List Float) → old ≡ front ++ back → length front ≡ p → q + m + w * k ≤ p + k → m ≤ k
+    → new ≡ rows 0 s m w (λ c t. at front (q + c * k + t)) back → p ≡ to → q ≡ from → k ≡ n
+    → front ++ new ≡ rows to s m w (λ c t. at old (from + c * n + t)) old
+back_told to from n p q k s m w front back old new e l h le is a b d = rw (a, b, d) at (back_filled p s m q k w front back old new e l h le is)

@@ -59,6 +59,10 @@ module _ {out mid last : List ℕ} {p q r : ℕ} where
   pub decimal_last : (n : ℕ) → 10 ≤ n → Printed out p (decimal_of (n / 10)) q mid → Printed mid q ((48 + n % 10) ∷ []) r last → Printed out p (decimal_of n) r last
   decimal_last n h a b = rw (decimal_more n h) (printed_next a b)
 
+-- a byte that an equation tells, as an `if` in the code may pick it
+pub byte_is : {out last : List ℕ} {p r : ℕ} (byte told : ℕ) → Printed out p (byte ∷ []) r last → byte ≡ told → Printed out p (told ∷ []) r last
+byte_is byte told h is = rw is at h
+
 pub rule_none : (out : List ℕ) (p : ℕ) (f : ℕ → ℕ) → p ≤ length out → Printed out p (tab 0 f) p out
 unfolding tab
 rule_none out p f h = printed_none out p h

@@ -138,6 +138,7 @@ fn put_named(out: &mut [u8], text: &[u8], n: usize) -> usize
 }
 
 // The last line, how many columns were played or why the file is refused, from the start of the buffer; answers how many bytes it is.
+#[tactic(auto, unfolding(crate::specs::Text::last_of))]
 pub fn put_last(out: &mut [u8], outcome: Result<usize, Refusal>) -> usize
     requires { IfOk outcome (λ count. count < 4294967296) × (19 ≤ length out.old) }
     ensures { Printed out.old 0 (last_of (number_of outcome) (count_in outcome)) result out.new }

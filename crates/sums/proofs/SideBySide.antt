@@ -9,7 +9,7 @@ use lib.ListN.{length, set}
 use denote.Param.Members.{Mut}
 use Rattle.std.specs.Fn.{Called}
 use Rattle.std.specs.Array.{IsFromFnResultFrom, IsFromFnResult}
-use lib.Ieee.{Float, nan, binary32, add}
+use lib.Ieee.{Float, nan, binary32, add, mul}
 use Rattle.lists.specs.Tab.{at, tab, fill, rows}
 use Rattle.lists.proofs.Tab.{at-tab, is_tab, tab_ext}
 use Rattle.lists.proofs.Fill.{fill_none, fill_turn, fill_ext, fill_join, fill_apart, fill_swap}
@@ -41,6 +41,18 @@ pub lanes_more : (n j : ℕ) (start : ℕ → Float) (term : ℕ → ℕ → Flo
     → last ≡ tab n (λ i. add binary32 (at sums i) (term i j)) → last ≡ tab n (λ i. sum_from (start i) (j + 1) (term i))
 lanes_more n j start term sums last e h =
     h ∙ tab_ext nan n _ _ (λ i lt. rw (e, at-tab nan n _ i lt) (sum_more (start i) j (term i)))
+
+-- one input's product more in each of n lanes: onto which sums, by which weights and of which number, equations say, so that it holds too where an `if`
+-- in the code picks one of them
+pub input_more : (weights values : List Float) (n j w between step from a b : ℕ) (start : ℕ → Float) (sums begun last : List Float)
+    → sums ≡ tab n (λ i. sum_from (start i) j (product weights (w + i * between) step (λ j. at values (from + j))))
+    → last ≡ tab n (λ i. add binary32 (at begun i) (mul binary32 (at weights (a + i * between)) (at values b)))
+    → a ≡ w + j * step → b ≡ from + j → begun ≡ sums
+    → last ≡ tab n (λ i. sum_from (start i) (j + 1) (product weights (w + i * between) step (λ j. at values (from + j))))
+unfolding product
+input_more weights values n j w between step from a b start sums begun last e h weight input is =
+    let same : (i : ℕ) → a + i * between ≡ w + i * between + j * step = λ i. omega (arith, weight) in
+    lanes_more n j start _ sums last e (h ∙ tab_ext nan n _ _ (λ i lt. rw (is, same i, input)))
 
 -- sixteen columns of a row lie where the row does
 pub tile_fits : {nwork nweights to from stride n w step many : ℕ} (i m : ℕ) → RowFits nwork nweights to from stride n w step many → i < n / 16 → m ≡ nwork
@@ -97,6 +109,31 @@ outputs_part d k f le = record {
   values_in = omega (arith, f.values_in);
   weights_inside = λ i j hi hj. omega (arith, f.weights_inside i (d + j) hi (omega arith));
 }
+
+-- a four of inputs more in each of n lanes, said as in `input_more`
+pub four_more : (weights values : List Float) (n q w between from a b : ℕ) (start : ℕ → Float) (sums begun last : List Float)
+    → sums ≡ tab n (λ i. sum_from (start i) (q * 4) (product weights (w + i * between) 1 (λ j. at values (from + j))))
+    → last ≡ tab n (λ i. sum_from (at begun i) 4 (product weights (a + i * between) 1 (λ j. at values (b + j))))
+    → a ≡ w + q * 4 → b ≡ from + q * 4 → begun ≡ sums
+    → last ≡ tab n (λ i. sum_from (start i) ((q + 1) * 4) (product weights (w + i * between) 1 (λ j. at values (from + j))))
+unfolding product
+four_more weights values n q w between from a b start sums begun last e h weight input is =
+    let next : (q + 1) * 4 ≡ q * 4 + 4 = omega arith in
+    let number : (j : ℕ) → b + j ≡ from + (q * 4 + j) = λ j. omega (arith, input) in
+    let place : (i j : ℕ) → a + i * between + j * 1 ≡ w + i * between + (q * 4 + j) * 1 = λ i j. omega (arith, weight) in
+    rw next (lanes_join n (q * 4) 4 start _ _ sums last e (rw is at h) (λ i j hi hj. rw (place i j, number j)))
+
+-- four q of n lies where all of them do
+pub four_in : {nvalues nweights from w between last n q a b : ℕ} → OutputsFit nvalues nweights from w between last 1 (n * 4) → q < n
+    → a ≤ w + q * 4 → b ≡ from + q * 4 → OutputsFit nvalues nweights b a between last 1 4
+four_in {q = q} f lt le is =
+    let part = outputs_part (q * 4) 4 f (omega arith) in
+    record { values_in = omega (arith, part.values_in, is); weights_inside = λ i j hi hj. omega (arith, part.weights_inside i j hi hj, le) }
+
+-- the same number of products said otherwise
+pub lanes_count : (n m k : ℕ) (start : ℕ → Float) (term : ℕ → ℕ → Float) (sums : List Float) → sums ≡ tab n (λ i. sum_from (start i) m (term i)) → m ≡ k
+    → sums ≡ tab n (λ i. sum_from (start i) k (term i))
+lanes_count n m k start term sums e is = rw is at e
 
 -- ---- numbers stored next to each other, the first one last: one store more of the others
 pub others_turn : (to i : ℕ) (g : ℕ → Float) (v : Float) (out old : List Float) → 0 < i → out ≡ fill (to + 1) (i - 1) g old → v ≡ g (i - 1)

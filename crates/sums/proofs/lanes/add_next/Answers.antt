@@ -1,13 +1,10 @@
--- `sums::lanes::add_next` meets its contract. The first inputs are summed by fours; after j inputs each lane has the sum of j products, by `lanes-more`.
+-- `sums::lanes::add_next` meets its contract. The first inputs are summed by fours; after j inputs each lane has the sum of j products, by `input_more`.
 use mathlib.Core.Path.{◌≡◌, ◌∙◌, ap}
-use Prim.Native.Nat.{ℕ, ◌+◌, ◌*◌}
 use native.Mathlib.Omega.{arith}
 use lib.ListN.{length}
-use lib.Ieee.{nan}
 use borrow.Author.Rules.{rules}
-use Rattle.lists.proofs.Tab.{length-tab, tab_ext}
-use Rattle.sums.specs.Product.{product}
-use Rattle.sums.proofs.SideBySide.{lanes_more}
+use Rattle.lists.proofs.Tab.{length-tab}
+use Rattle.sums.proofs.SideBySide.{input_more, lanes_count}
 use Rattle.lists.specs.Tab.{at}
 use Rattle.sums.proofs.lanes.add_next.Goals as goal
 
@@ -16,8 +13,8 @@ fours_next-r-requires g c =
     let all = c.requires in (
       search rules,
       record {
-        values_in = omega (arith, all.values_in);
-        weights_inside = λ i j hi hj. all.weights_inside i j hi (omega (arith, hj));
+        values_in = grind (arith, all.values_in);
+        weights_inside = λ i j hi hj. all.weights_inside i j hi (grind (arith, hj));
       },
     )
 
@@ -50,15 +47,12 @@ add_input-more-requires g c =
     (search rules, λ i lt. omega (arith, loop.invariant.2.weights_inside i loop.j (omega arith) c.loop-j-test.true))
 
 pub loop-j-preserved : goal.loop-j-preserved
-unfolding product
 loop-j-preserved g c =
-    let args = c.args in
-    let loop = c.loop-j in
-    let same : (i : ℕ) → args.w + loop.j + i * args.between ≡ args.w + i * args.between + loop.j * 1 = λ i. omega arith in (
+    let loop = c.loop-j in (
       search rules,
       ap length c.add_input-more.ensures ∙ length-tab g.row.L _,
       loop.invariant.2,
-      λ start e. lanes_more g.row.L loop.j _ _ loop.r _ (loop.invariant.3 start e) (c.add_input-more.ensures ∙ tab_ext nan g.row.L _ _ (λ i lt. rw (same i))),
+      λ start e. input_more _ _ g.row.L loop.j _ _ _ _ _ _ _ loop.r _ _ (loop.invariant.3 start e) c.add_input-more.ensures (grind arith) (grind arith) (grind arith),
     )
 
 pub returns : goal.returns
@@ -66,4 +60,4 @@ returns g c =
     let args = c.args in
     let loop = c.loop-j in
     let e : loop.j ≡ args.many = omega arith in
-    rw e at (loop.invariant.3 (at args.sums) c.fours_next-r.ensures)
+    rw e at (loop.invariant.3 (at args.sums) (lanes_count _ _ _ _ _ _ c.fours_next-r.ensures (grind arith)))

@@ -1,13 +1,10 @@
--- `sums::lanes::four_next` meets its contract. After j inputs each lane has the sum of j products, by `lanes-more`.
+-- `sums::lanes::four_next` meets its contract. After j inputs each lane has the sum of j products, by `input_more`.
 use mathlib.Core.Path.{◌≡◌, ◌∙◌, ap}
-use Prim.Native.Nat.{ℕ, ◌+◌, ◌*◌}
 use native.Mathlib.Omega.{arith}
 use lib.ListN.{length}
-use lib.Ieee.{nan}
 use borrow.Author.Rules.{rules}
-use Rattle.lists.proofs.Tab.{length-tab, tab_ext}
-use Rattle.sums.specs.Product.{product}
-use Rattle.sums.proofs.SideBySide.{lanes_none, lanes_more}
+use Rattle.lists.proofs.Tab.{length-tab}
+use Rattle.sums.proofs.SideBySide.{lanes_none, input_more}
 use Rattle.sums.proofs.lanes.four_next.Goals as goal
 
 pub loop-j-init : goal.loop-j-init
@@ -39,15 +36,12 @@ add_input-more-requires g c =
     (search rules, λ i lt. omega (arith, loop.invariant.2.weights_inside i loop.j (omega arith) c.loop-j-test.true))
 
 pub loop-j-preserved : goal.loop-j-preserved
-unfolding product
 loop-j-preserved g c =
-    let args = c.args in
-    let loop = c.loop-j in
-    let same : (i : ℕ) → args.w + loop.j + i * args.between ≡ args.w + i * args.between + loop.j * 1 = λ i. omega arith in (
+    let loop = c.loop-j in (
       search rules,
       ap length c.add_input-more.ensures ∙ length-tab g.row.L _,
       loop.invariant.2,
-      lanes_more g.row.L loop.j _ _ loop.r _ loop.invariant.3 (c.add_input-more.ensures ∙ tab_ext nan g.row.L _ _ (λ i lt. rw (same i))),
+      input_more _ _ g.row.L loop.j _ _ _ _ _ _ _ loop.r _ _ loop.invariant.3 c.add_input-more.ensures (grind arith) (grind arith) (grind arith),
     )
 
 pub returns : goal.returns
