@@ -13,10 +13,12 @@ pub returns-then-to-from : goal.returns-then-to-from
 returns-then-to-from c =
     let split = c.split_at_mut-front.ensures in
     front_told c.args.to c.args.from c.args.n _ _ _ c.args.s c.args.m c.args.w _ _ _ _ split.value split.front_len
-    (grind (arith, c.requires, row_end 0 c.args.w c.args.n (omega arith))) (grind arith) c.columns.ensures (grind arith) (grind arith) (grind arith)
+    (grind (arith, c.requires, row_end 0 c.args.w c.args.n (omega arith))) (grind arith)
+    c.columns.ensures (grind arith) (grind arith) (grind arith)
 
 pub returns-else-to-from : goal.returns-else-to-from
 returns-else-to-from c =
     let split = c.split_at_mut-front-else-to-from.ensures in
     back_told c.args.to c.args.from c.args.n _ _ _ c.args.s c.args.m c.args.w _ _ _ _ split.value split.front_len
-    (grind (arith, c.requires, row_end 0 c.args.w c.args.s (omega arith))) (grind arith) c.columns-else-to-from.ensures (grind arith) (grind arith) (grind arith)
+    (grind (arith, c.requires, row_end 0 c.args.w c.args.s (omega arith))) (grind arith)
+    c.columns-else-to-from.ensures (grind arith) (grind arith) (grind arith)

@@ -52,7 +52,8 @@ loop-j-preserved g c =
       search rules,
       ap length c.add_input-more.ensures ∙ length-tab g.row.L _,
       loop.invariant.2,
-      λ start e. input_more _ _ g.row.L loop.j _ _ _ _ _ _ _ loop.r _ _ (loop.invariant.3 start e) c.add_input-more.ensures (grind arith) (grind arith) (grind arith),
+      λ start e. input_more _ _ g.row.L loop.j _ _ _ _ _ _ _ loop.r _ _ (loop.invariant.3 start e)
+          c.add_input-more.ensures (grind arith) (grind arith) (grind arith),
     )
 
 pub returns : goal.returns
